@@ -1,0 +1,8 @@
+//! Bytes in arrays and blocks: what the ciphers and what stands on them share.
+mod arrays;
+mod blocks;
+
+pub use arrays::copied;
+pub use blocks::halves;
+pub use blocks::join;
+pub use blocks::xor8;

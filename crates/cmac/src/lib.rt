@@ -1,0 +1,3 @@
+//! CMAC over any block cipher, and the diversified keys made with it.
+pub mod diversified;
+pub mod message;

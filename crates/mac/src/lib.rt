@@ -1,0 +1,4 @@
+//! The card's tags and session keys, over any block cipher.
+pub mod chain;
+pub mod reversal;
+pub mod session;
