@@ -1,8 +1,12 @@
-//! An independent reference for the ciphers, tags and keys of the verified
-//! program. It is written from the public standards alone and made to be read,
-//! so that a difference between the two programs means a mistake in one.
+//! An independent reference for the ciphers, tags, keys and frames of the
+//! verified program. It is written from the public standards alone and made to
+//! be read, so that a difference between the two programs means a mistake in one.
 
+mod crc;
 mod des;
+mod frame;
+mod frame_lines;
+mod frames;
 mod hex;
 mod keys;
 mod mac;
@@ -17,9 +21,13 @@ fn main() -> ExitCode {
     let arguments: Vec<OsString> = std::env::args_os().skip(1).collect();
     match arguments.as_slice() {
         [command] if command == "vectors" => finish(vectors::run()),
+        [command] if command == "frame-lines" => finish(frame_lines::run()),
+        [command] if command == "frames" => finish(frames::run()),
         [command] if command == "keys" => finish(keys::run()),
         _ => {
             eprintln!("usage: reference vectors");
+            eprintln!("       reference frame-lines");
+            eprintln!("       reference frames < LINES");
             eprintln!("       reference keys < LINES");
             ExitCode::from(2)
         }

@@ -19,8 +19,13 @@ impl Random {
         self.state.wrapping_mul(0x2545_F491_4F6C_DD1D)
     }
 
-    /// Each byte is the top of one output, where the bits are mixed best.
+    /// The top of one output, where the bits are mixed best.
+    pub fn byte(&mut self) -> u8 {
+        (self.next() >> 56) as u8
+    }
+
+    /// As many single bytes, each of its own output.
     pub fn bytes(&mut self, count: usize) -> Vec<u8> {
-        (0..count).map(|_| (self.next() >> 56) as u8).collect()
+        (0..count).map(|_| self.byte()).collect()
     }
 }

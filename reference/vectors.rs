@@ -7,7 +7,7 @@ use std::io::{self, Write};
 
 const CASES: usize = 200;
 const SHOWN: usize = 10;
-const SEED: u64 = 0x0123_4567_89AB_CDEF;
+pub const SEED: u64 = 0x0123_4567_89AB_CDEF;
 
 const TDES3_KEY: &str = "0123456789ABCDEF23456789ABCDEF01456789ABCDEF0123";
 const TDES3_CASES: [(&[u8; 8], &str); 3] = [

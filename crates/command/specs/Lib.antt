@@ -1,0 +1,4 @@
+pub mod Slots
+pub mod Commands
+pub mod Headers
+pub mod Bench

@@ -1,0 +1,3 @@
+-- The CRC and its laws.
+pub mod Crc
+pub mod Laws

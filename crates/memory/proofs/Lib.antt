@@ -1,0 +1,3 @@
+-- Lemmas that the proofs of several functions share.
+pub mod PartLaws
+pub mod CellLaws
