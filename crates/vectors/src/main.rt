@@ -1,11 +1,8 @@
-//! Prints test vectors: of the ciphers, tags and keys, published cases and cases drawn from a fixed start; then the answers to
-//! questions about frames on standard input. The files stdin and stdout beside this folder were written by the second
-//! program; the gate compares.
+//! Prints test vectors of the ciphers, tags and keys: published cases, and cases drawn from a fixed start. The file stdout
+//! beside this folder was written by the second program; the gate compares the two.
 mod cases;
 mod drawn;
-mod heard;
 mod published;
-mod questions;
 mod random;
 mod text;
 
@@ -13,6 +10,5 @@ use std::io;
 
 fn main(rt: LibcRuntime) -> io::Result<()> {
     published::print(&rt)?;
-    drawn::print(&rt)?;
-    questions::print_answers(&rt)
+    drawn::print(&rt)
 }

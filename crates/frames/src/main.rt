@@ -1,10 +1,13 @@
-//! Questions about frames, one a line of standard input: a word, a space, and bytes in capital hexadecimal (a hyphen for
-//! none). `crc` asks for their CRC; `made` for the frame of a packet (00h and the frame, or 01h if the packet is too long);
-//! `slot` for the slot of a random byte and the number of the last slot; `hear` for what the bytes ask. Each answer is a line.
+//! Answers questions about frames, one a line of standard input: a word, a space, and bytes in capital hexadecimal (a hyphen
+//! for none). `crc` asks for their CRC; `made` for the frame of a packet (00h and the frame, or 01h if the packet is too long);
+//! `slot` for the slot of a random byte and the number of the last slot; `hear` for what the bytes ask. Each answer is a line
+//! of capital hexadecimal. The files stdin and stdout beside this folder were written by the second program; the gate
+//! compares.
+mod digits;
+mod heard;
+
+use crate::digits::bytes_of;
 use crate::heard::heard;
-use crate::text::Hex;
-use crate::text::HexDisplay;
-use crate::text::bytes_of;
 use command::slot;
 use crc::crc_of;
 use frame::put_frame;
@@ -50,11 +53,17 @@ fn answer(heap: Global, line: &[u8]) -> Result<Vec<u8>, AllocError> {
     }
 }
 
-pub fn print_answers(rt: &LibcRuntime) -> io::Result<()> {
+fn print_line(rt: &LibcRuntime, bytes: &[u8]) -> io::Result<()> {
+    for byte in bytes {
+        print!(rt, "{byte:02X}")?;
+    }
+    println!(rt, "")
+}
+
+fn main(rt: LibcRuntime) -> io::Result<()> {
     let heap = rt.alloc();
     for line in BufReader::new(rt.stdin()).split(heap, b'\n') {
-        let made = answer(heap, &line?)?;
-        println!(rt, "{}", Hex(&made))?;
+        print_line(&rt, &answer(heap, &line?)?)?;
     }
     Ok(())
 }
