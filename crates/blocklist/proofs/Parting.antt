@@ -1,12 +1,12 @@
 -- The laws of block lists: what is read of a list does not depend on the bytes after it.
-use Rattle.std.proofs.Common.{◌≡◌, ℕ, zero, suc, ◌+◌, ◌-◌, ◌*◌, ◌<◌, ◌≤◌, min, Bool, true, false, cond, ◌&&◌, eqb, ltb, leb, ◌⊎◌, List, [], ◌∷◌, ◌++◌, length, get_or, take, drop, Ok, Err, Result, sym, refl, ap, ◌∙◌, inl, inr, ⊎_elim, arith}
+use Rattle.std.proofs.Common.{◌≡◌, ℕ, zero, suc, ◌+◌, ◌-◌, ◌*◌, ◌<◌, ◌≤◌, true, cond, ltb, List, [], ◌∷◌, ◌++◌, length, take, drop, Ok, Err, Result, sym, refl, ap, ◌∙◌, ⊎_elim, arith}
 use Rattle.std.proofs.lemmas.Bool.Decides.{nat_tests}
 use Rattle.std.proofs.lemmas.Bool.{cases_lt, and_parts, and_from, eqb-true, eq-eqb}
 use Rattle.std.proofs.lemmas.List.{length-append, length-take, length-drop, length-take-le, get_or_append_left, get_or-take, drop-append-le, drop-take}
 use Rattle.blocklist.specs.declared.element.Element.{Element}
 use Rattle.blocklist.specs.declared.fault.Fault.{Fault}
-use Rattle.blocklist.specs.Elements.{width, element_of, named, elements, before, all_named, blocks_named}
-use Rattle.blocklist.specs.Lists.{led_by, list_read, read_exact, write_exact}
+use Rattle.blocklist.specs.Elements.{width, named, elements, before, all_named, blocks_named}
+use Rattle.blocklist.specs.Lists.{list_read, read_exact, write_exact}
 use Rattle.blocklist.proofs.Reading.{read_none, read_stop, read_more}
 use Rattle.blocklist.proofs.Naming.{elements_none, elements_stop, elements_more}
 

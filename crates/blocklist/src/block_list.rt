@@ -4,7 +4,7 @@ ghost use Rattle.blocklist.specs.Lists.{element_end, list_read, read_exact, writ
 ghost use Rattle.blocklist.specs.ListLaws.{ExactListsNameAll, ListsWithDataAreWrites, WritesAreListsWithData};
 
 use crate::element::first_element;
-use bytes::tail;
+use byte_arrays::tail;
 
 /// The offset after the element at an offset, or nothing where the bytes end before it does.
 fn after_element(bytes: &[u8], at: usize) -> Option<usize>

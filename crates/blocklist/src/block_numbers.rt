@@ -5,7 +5,7 @@ ghost use Rattle.blocklist.specs.Elements.{blocks_named, first_named, numbers_in
 use crate::blocks::Blocks;
 use crate::element::first_element;
 use crate::fault::Fault;
-use bytes::tail;
+use byte_arrays::tail;
 
 impl Blocks {
     /// No numbers yet.

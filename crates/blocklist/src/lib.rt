@@ -1,4 +1,6 @@
 //! Block lists: how many elements, how many bytes, which blocks; and the refusals of a command.
+#![tactic(auto)]
+
 mod block_list;
 mod block_numbers;
 mod blocks;

@@ -1,4 +1,6 @@
 //! A hopper's blocks: the cells they lie in, the configuration, permission, and the write counter.
+#![tactic(auto)]
+
 mod cells;
 mod config;
 mod counter;

@@ -1,6 +1,6 @@
 -- The tags of a hopper, under the keys of its session. E is the cipher as a function of key bytes and a block.
 use Rattle.std.specs.Prelude.{ℕ, ◌%◌, Bool, List, [], ◌∷◌, ◌++◌, Some, None, Option}
-use Rattle.bytes.specs.Equality.{same_bytes}
+use Rattle.byte_arrays.specs.Equality.{same_bytes}
 use Rattle.blocks.specs.Counters.{three_bytes}
 use Rattle.hopper.specs.Windows.{zeros}
 use Rattle.mac.specs.declared.session.SessionKeys.{SessionKeys}

@@ -1,4 +1,6 @@
 //! One hopper's card: a command that names it is decided and then carried out.
+#![tactic(auto)]
+
 mod outcome;
 mod reaction;
 mod read;

@@ -28,9 +28,9 @@ fn carry_out<C: Cipher>(
     command: Command,
     sheet: &mut [u64; 16],
 ) -> Result<Outcome, KeyError>
-    requires { key_length ≡ 16 }
-    ensures answer { answered_as outcome result ≡ (0, Some (shown_by (heard enciphered cells.now volatile.old (asked command.entry)))) }
-    ensures kept { volatile.new ≡ (heard enciphered cells.now volatile.old (asked command.entry)).kept }
+    requires { C.key_length ≡ 16 }
+    ensures answer { answered_as outcome result ≡ (0, Some (shown_by (heard C.enciphered cells.now volatile.old (asked command.entry)))) }
+    ensures kept { volatile.new ≡ (heard C.enciphered cells.now volatile.old (asked command.entry)).kept }
     ensures wiped { sheet.new ≡ replicate 16 0 }
 {
     *sheet = [0; 16];
@@ -53,9 +53,9 @@ fn respond<C: Cipher>(
     command: Command,
     sheet: &mut [u64; 16],
 ) -> Result<Outcome, KeyError>
-    requires { key_length ≡ 16 }
-    ensures answer { answered_as outcome result ≡ (0, Some (shown_by (response enciphered cells.now volatile.old (asked command.entry)))) }
-    ensures kept { volatile.new ≡ (response enciphered cells.now volatile.old (asked command.entry)).kept }
+    requires { C.key_length ≡ 16 }
+    ensures answer { answered_as outcome result ≡ (0, Some (shown_by (response C.enciphered cells.now volatile.old (asked command.entry)))) }
+    ensures kept { volatile.new ≡ (response C.enciphered cells.now volatile.old (asked command.entry)).kept }
     ensures wiped { sheet.new ≡ replicate 16 0 }
 {
     *sheet = [0; 16];
@@ -74,7 +74,7 @@ pub fn react<C: Cipher>(
     command: Command,
     sheet: &mut [u64; 16],
 ) -> Result<Outcome, KeyError>
-    ensures { reacted_as result volatile.new sheet.new ≡ reacted key_length enciphered cells.now volatile.old (asked command.entry) }
+    ensures { reacted_as result volatile.new sheet.new ≡ reacted C.key_length C.enciphered cells.now volatile.old (asked command.entry) }
 {
     *sheet = [0; 16];
     if cipher.key_size() != KEY_LENGTH {

@@ -40,8 +40,8 @@ pub(crate) fn read<C: Cipher>(
     request: Request,
     sheet: &mut [u64; 16],
 ) -> Result<Outcome, KeyError>
-    requires { key_length ≡ 16 }
-    ensures answer { answered_as outcome result ≡ (0, Some (shown_by (read_carried enciphered cells.now volatile.now (carried request.entry) (read_judged (public_view cells.now volatile.now) (carried request.entry))))) }
+    requires { C.key_length ≡ 16 }
+    ensures answer { answered_as outcome result ≡ (0, Some (shown_by (read_carried C.enciphered cells.now volatile.now (carried request.entry) (read_judged (public_view cells.now volatile.now) (carried request.entry))))) }
     ensures wiped { sheet.new ≡ replicate 16 0 }
 {
     *sheet = [0; 16];

@@ -8,7 +8,7 @@ ghost use Rattle.reply.specs.Texts.{block_sent, tag_block, text_in, text_of};
 ghost use Rattle.std.specs.Prelude.{◌≡◌, ◌≤◌, length, replicate, Some};
 
 use crate::signature::{chain_start, read_key};
-use bytes::join;
+use byte_arrays::join;
 use cipher::{Cipher, KeyError};
 use decision::View;
 use hopper::read_block;
@@ -42,7 +42,7 @@ fn block_sent<C: Cipher>(
     block: u16,
     sheet: &mut [u64; 16],
 ) -> [u8; 16]
-    ensures value { result ≡ block_sent (reads_from source.entry) (tagged (enciphered (key_bytes key.now)) start) (text_in text.now) block }
+    ensures value { result ≡ block_sent (reads_from source.entry) (tagged (C.enciphered (C.key_bytes key.now)) start) (text_in text.now) block }
     ensures wiped { sheet.new ≡ replicate 16 0 }
 {
     *sheet = [0; 16];
@@ -63,7 +63,7 @@ fn text_shown<C: Cipher>(
     sheet: &mut [u64; 16],
 ) -> Text
     requires { length numbers.now ≤ 4 }
-    ensures value { text_in result ≡ text_of (reads_from source.entry) (tagged (enciphered (key_bytes key.now)) start) numbers.now }
+    ensures value { text_in result ≡ text_of (reads_from source.entry) (tagged (C.enciphered (C.key_bytes key.now)) start) numbers.now }
     ensures wiped { sheet.new ≡ replicate 16 0 }
 {
     *sheet = [0; 16];
@@ -84,8 +84,8 @@ pub(crate) fn shown<'a, C: Cipher>(
     numbers: &[u16],
     sheet: &mut [u64; 16],
 ) -> Result<Text, KeyError>
-    requires { (key_length ≡ 16) × (length numbers.now ≤ 4) }
-    ensures answer { answered_as text_in result ≡ (0, Some (text_of (reads_as cells.now view.now volatile.now.session) (tagger enciphered volatile.now) numbers.now)) }
+    requires { (C.key_length ≡ 16) × (length numbers.now ≤ 4) }
+    ensures answer { answered_as text_in result ≡ (0, Some (text_of (reads_as cells.now view.now volatile.now.session) (tagger C.enciphered volatile.now) numbers.now)) }
     ensures wiped { sheet.new ≡ replicate 16 0 }
 {
     let key = cipher.key(&read_key(&volatile.keys), sheet)?;

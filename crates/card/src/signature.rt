@@ -3,7 +3,7 @@ ghost use Rattle.card.specs.Signatures.{chain_start, is_right, read_key, signatu
 ghost use Rattle.cipher.specs.Keys.{answered, answered_as};
 ghost use Rattle.std.specs.Prelude.{◌≡◌, replicate, Some};
 
-use bytes::{halves, join, same8};
+use byte_arrays::{halves, join, same8};
 use cipher::{Cipher, KeyError};
 use mac::chain::tag_under;
 use mac::reversal::turn_round;
@@ -56,8 +56,8 @@ pub(crate) fn is_right<C: Cipher>(
     tag: &[u8; 8],
     sheet: &mut [u64; 16],
 ) -> Result<bool, KeyError>
-    requires { key_length ≡ 16 }
-    ensures answer { answered result ≡ (0, Some (is_right enciphered volatile.now counter block sent.now tag.now)) }
+    requires { C.key_length ≡ 16 }
+    ensures answer { answered result ≡ (0, Some (is_right C.enciphered volatile.now counter block sent.now tag.now)) }
     ensures wiped { sheet.new ≡ replicate 16 0 }
 {
     let key = write_key(&volatile.keys);

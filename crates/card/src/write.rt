@@ -11,7 +11,7 @@ ghost use Rattle.std.specs.Prelude.{◌≡◌, [], replicate, Some};
 use crate::outcome::Outcome;
 use crate::signature::is_right;
 use blocklist::{Fault, HEADER_PLACE, Refusal};
-use bytes::halves;
+use byte_arrays::halves;
 use cipher::{Cipher, KeyError};
 use command::{Request, WriteBody};
 use decision::{View, WritePlan};
@@ -39,9 +39,9 @@ fn keep<C: Cipher>(
     sent: &[u8; 16],
     sheet: &mut [u64; 16],
 ) -> Result<(), KeyError>
-    requires { key_length ≡ 16 }
+    requires { C.key_length ≡ 16 }
     ensures answer { answered result ≡ (0, Some (tt {0})) }
-    ensures kept { volatile.new ≡ kept_after enciphered cells.now volatile.old block sent.now }
+    ensures kept { volatile.new ≡ kept_after C.enciphered cells.now volatile.old block sent.now }
     ensures wiped { sheet.new ≡ replicate 16 0 }
 {
     *sheet = [0; 16];
@@ -93,9 +93,9 @@ fn accept<C: Cipher>(
     order: Order,
     sheet: &mut [u64; 16],
 ) -> Result<Outcome, KeyError>
-    requires { key_length ≡ 16 }
-    ensures answer { answered_as outcome result ≡ (0, Some (shown_by (accepted enciphered cells.now volatile.old order.identity order.block order.sent []))) }
-    ensures kept { volatile.new ≡ kept_after enciphered cells.now volatile.old order.block order.sent }
+    requires { C.key_length ≡ 16 }
+    ensures answer { answered_as outcome result ≡ (0, Some (shown_by (accepted C.enciphered cells.now volatile.old order.identity order.block order.sent []))) }
+    ensures kept { volatile.new ≡ kept_after C.enciphered cells.now volatile.old order.block order.sent }
     ensures wiped { sheet.new ≡ replicate 16 0 }
 {
     let state = view(cells, volatile);
@@ -117,9 +117,9 @@ fn judge<C: Cipher>(
     mac: &[u8; 16],
     sheet: &mut [u64; 16],
 ) -> Result<Outcome, KeyError>
-    requires { key_length ≡ 16 }
-    ensures answer { answered_as outcome result ≡ (0, Some (shown_by (signed_carried enciphered cells.now volatile.old order.identity order.block order.sent (Some mac.now)))) }
-    ensures kept { volatile.new ≡ (signed_carried enciphered cells.now volatile.old order.identity order.block order.sent (Some mac.now)).kept }
+    requires { C.key_length ≡ 16 }
+    ensures answer { answered_as outcome result ≡ (0, Some (shown_by (signed_carried C.enciphered cells.now volatile.old order.identity order.block order.sent (Some mac.now)))) }
+    ensures kept { volatile.new ≡ (signed_carried C.enciphered cells.now volatile.old order.identity order.block order.sent (Some mac.now)).kept }
     ensures wiped { sheet.new ≡ replicate 16 0 }
 {
     let counter = view(cells, volatile).counter;
@@ -150,9 +150,9 @@ fn carry_out<C: Cipher>(
     second: Option<[u8; 16]>,
     sheet: &mut [u64; 16],
 ) -> Result<Outcome, KeyError>
-    requires { key_length ≡ 16 }
-    ensures answer { answered_as outcome result ≡ (0, Some (shown_by (plan_carried enciphered cells.now volatile.old identity.now first second plan))) }
-    ensures kept { volatile.new ≡ (plan_carried enciphered cells.now volatile.old identity.now first second plan).kept }
+    requires { C.key_length ≡ 16 }
+    ensures answer { answered_as outcome result ≡ (0, Some (shown_by (plan_carried C.enciphered cells.now volatile.old identity.now first second plan))) }
+    ensures kept { volatile.new ≡ (plan_carried C.enciphered cells.now volatile.old identity.now first second plan).kept }
     ensures wiped { sheet.new ≡ replicate 16 0 }
 {
     *sheet = [0; 16];
@@ -189,9 +189,9 @@ fn write_body<C: Cipher>(
     body: WriteBody,
     sheet: &mut [u64; 16],
 ) -> Result<Outcome, KeyError>
-    requires { key_length ≡ 16 }
-    ensures answer { answered_as outcome result ≡ (0, Some (shown_by (body_carried enciphered cells.now volatile.old (carried request.entry) (body_of body.entry)))) }
-    ensures kept { volatile.new ≡ (body_carried enciphered cells.now volatile.old (carried request.entry) (body_of body.entry)).kept }
+    requires { C.key_length ≡ 16 }
+    ensures answer { answered_as outcome result ≡ (0, Some (shown_by (body_carried C.enciphered cells.now volatile.old (carried request.entry) (body_of body.entry)))) }
+    ensures kept { volatile.new ≡ (body_carried C.enciphered cells.now volatile.old (carried request.entry) (body_of body.entry)).kept }
     ensures wiped { sheet.new ≡ replicate 16 0 }
 {
     *sheet = [0; 16];
@@ -214,9 +214,9 @@ pub(crate) fn write<C: Cipher>(
     request: Request,
     sheet: &mut [u64; 16],
 ) -> Result<Outcome, KeyError>
-    requires { key_length ≡ 16 }
-    ensures answer { answered_as outcome result ≡ (0, Some (shown_by (write_carried enciphered cells.now volatile.old (carried request.entry) (write_header (carried request.entry))))) }
-    ensures kept { volatile.new ≡ (write_carried enciphered cells.now volatile.old (carried request.entry) (write_header (carried request.entry))).kept }
+    requires { C.key_length ≡ 16 }
+    ensures answer { answered_as outcome result ≡ (0, Some (shown_by (write_carried C.enciphered cells.now volatile.old (carried request.entry) (write_header (carried request.entry))))) }
+    ensures kept { volatile.new ≡ (write_carried C.enciphered cells.now volatile.old (carried request.entry) (write_header (carried request.entry))).kept }
     ensures wiped { sheet.new ≡ replicate 16 0 }
 {
     *sheet = [0; 16];

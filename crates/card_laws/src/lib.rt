@@ -1,4 +1,6 @@
 //! The laws of one hopper's card that whole lives rest on. Each function promises one; there is nothing to compute.
+#![tactic(auto)]
+
 mod bench;
 
 ghost use Rattle.card_laws.specs.Laws.{ElseCounterStays, IssuedStays, KeysShowInTagsAndVerdictsAlone, MacCarriesTheCounter, NumbersArePublic, RaisesByOne, StageIsKept, WritesFitTheJournal};

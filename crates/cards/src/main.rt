@@ -4,6 +4,8 @@
 //! element, the reply's length and bytes, the setting afterwards, RC and the session keys if RC is written, and 00h, or 01h and
 //! the write for the journal (block, bytes, counter). The files stdin and stdout beside this folder were written by the second
 //! program; the gate compares.
+#![tactic(auto)]
+
 mod answer;
 mod digits;
 mod question;

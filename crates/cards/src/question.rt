@@ -1,6 +1,6 @@
 //! The state of a hopper and the packet that a question is about.
 use blocks::Stage;
-use bytes::tail;
+use byte_arrays::tail;
 use mac::session::SessionKeys;
 use memory::cell::Cell;
 use volatile::{Radio, Session, Volatile};

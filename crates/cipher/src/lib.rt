@@ -1,4 +1,6 @@
 //! What a block cipher on eight bytes is to everything above it.
+#![tactic(auto)]
+
 mod block_cipher;
 mod key_error;
 mod sheet;

@@ -1,7 +1,7 @@
 -- One block more of cipher block chaining, and none left.
 use Rattle.std.proofs.Common.{◌≡◌, ℕ, suc, ◌+◌, ◌-◌, ◌*◌, ◌<◌, ◌≤◌, List, take, drop, sym, refl, ap, ◌∙◌, arith}
 use Rattle.std.proofs.lemmas.List.{drop-drop}
-use Rattle.bytes.specs.Blocks.{xored}
+use Rattle.byte_arrays.specs.Blocks.{xored}
 use Rattle.cmac.specs.Cmac.{cbc}
 
 next : (E : List ℕ → List ℕ) (n : ℕ) (c m : List ℕ) → cbc E n (E (xored c (take 8 m))) (drop 8 m) ≡ cbc E (suc n) c m

@@ -1,5 +1,5 @@
 -- A part block, copied onto eight zeros and ended by 80h, is filled up.
-use Rattle.std.proofs.Common.{◌≡◌, ℕ, suc, ◌-◌, ◌<◌, List, ◌∷◌, ◌++◌, length, drop, set, replicate, sym, refl, ap, ◌∙◌, arith}
+use Rattle.std.proofs.Common.{◌≡◌, ℕ, suc, ◌-◌, ◌<◌, List, ◌∷◌, ◌++◌, length, drop, set, replicate, ap, ◌∙◌, arith}
 use lib.Seq.{set-append_seam}
 use Rattle.std.proofs.lemmas.List.{drop-replicate}
 use Rattle.cmac.specs.Cmac.{padded}

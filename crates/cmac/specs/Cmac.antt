@@ -1,7 +1,7 @@
 -- CMAC by NIST SP 800-38B for blocks of eight bytes, and diversified keys; E is a block cipher under a fixed key.
 use Rattle.std.specs.Prelude.{ℕ, zero, suc, ◌-◌, ◌*◌, ◌/◌, ◌%◌, ◌^◌, cond, List, ◌∷◌, ◌++◌, length, take, drop, replicate, ◌==◌, bit_xor, nat_lt, slice_index, slice_set}
-use Rattle.bytes.specs.Blocks.{xored}
-use Rattle.bytes.specs.Words.{word64, bytes64}
+use Rattle.byte_arrays.specs.Blocks.{xored}
+use Rattle.byte_arrays.specs.Words.{word64, bytes64}
 
 -- eight bytes shifted left by one bit, with the constant 1Bh added where the first bit was 1
 abbrev pub doubled : List ℕ → List ℕ

@@ -4,7 +4,7 @@ ghost use Rattle.cipher.specs.Keys.{answered, under_key};
 ghost use Rattle.cmac.specs.Cmac.{first_bit_flipped, diversified as diversified_of};
 
 use crate::message::cmac;
-use bytes::join;
+use byte_arrays::join;
 use cipher::{Cipher, KeyError};
 
 fn flip_first_bit(id: &[u8; 16]) -> [u8; 16]
@@ -22,7 +22,7 @@ pub fn diversified_key<C: Cipher>(
     id: &[u8; 16],
     sheet: &mut [u64; 16],
 ) -> Result<[u8; 16], KeyError>
-    ensures answer { answered result ≡ under_key key_length master.now (diversified_of (enciphered master.now) id.now) }
+    ensures answer { answered result ≡ under_key C.key_length master.now (diversified_of (C.enciphered master.now) id.now) }
     ensures wiped { sheet.new ≡ replicate 16 0 }
 {
     let key = cipher.key(master, sheet)?;

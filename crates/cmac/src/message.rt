@@ -1,9 +1,9 @@
 //! CMAC by NIST SP 800-38B, for every cipher on blocks of eight bytes.
 ghost use Rattle.std.specs.Prelude.{◌≡◌, ◌+◌, ◌*◌, ◌<◌, ◌≤◌, length, take, drop, replicate};
-ghost use Rattle.bytes.specs.Blocks.{xored};
+ghost use Rattle.byte_arrays.specs.Blocks.{xored};
 ghost use Rattle.cmac.specs.Cmac.{doubled, cbc as cbc_of, padded, masked, cmac as cmac_of};
 
-use bytes::{copied, xor8};
+use byte_arrays::{copied, xor8};
 use cipher::Cipher;
 
 /// Eight bytes shifted left by one bit, with the constant where the first bit was 1.
@@ -61,7 +61,7 @@ fn step<C: Cipher>(
     sheet: &mut [u64; 16],
 ) -> [u8; 8]
     requires { at + 8 ≤ length message.now }
-    ensures value { result ≡ enciphered (key_bytes key.now) (xored c (take 8 (drop at message.now))) }
+    ensures value { result ≡ C.enciphered (C.key_bytes key.now) (xored c (take 8 (drop at message.now))) }
     ensures wiped { sheet.new ≡ replicate 16 0 }
 {
     cipher.encrypt(key, xor8(c, &block_at(message, at)), sheet)
@@ -76,7 +76,7 @@ fn cbc<C: Cipher>(
     sheet: &mut [u64; 16],
 ) -> [u8; 8]
     requires { 8 * blocks ≤ length message.now }
-    ensures value { result ≡ cbc_of (enciphered (key_bytes key.now)) blocks (replicate 8 0) message.now }
+    ensures value { result ≡ cbc_of (C.enciphered (C.key_bytes key.now)) blocks (replicate 8 0) message.now }
     ensures wiped { sheet.new ≡ replicate 16 0 }
 {
     // a message of one block meets no cipher here that would clear the sheet
@@ -91,7 +91,7 @@ fn cbc<C: Cipher>(
 
 /// The tag of a message of any length.
 pub fn cmac<C: Cipher>(cipher: &C, key: &C::Key, message: &[u8], sheet: &mut [u64; 16]) -> [u8; 8]
-    ensures value { result ≡ cmac_of (enciphered (key_bytes key.now)) message.now }
+    ensures value { result ≡ cmac_of (C.enciphered (C.key_bytes key.now)) message.now }
     ensures wiped { sheet.new ≡ replicate 16 0 }
 {
     let k1 = double(cipher.encrypt(key, [0; 8], sheet));

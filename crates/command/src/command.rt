@@ -4,7 +4,7 @@ ghost use Rattle.command.specs.Commands.{asked, asked_in, carried, carried_in, i
 ghost use Rattle.frame.specs.Frames.{unframed};
 
 use crate::request::Request;
-use bytes::tail;
+use byte_arrays::tail;
 use frame::take_packet;
 
 /// A command. What fits none of the others is unknown.

@@ -7,7 +7,7 @@ ghost use Rattle.std.specs.Prelude.{◌≡◌};
 
 use crate::request::Request;
 use blocklist::{Fault, HEADER_PLACE, Refusal, read_is_exact, read_list, write_is_exact};
-use bytes::tail;
+use byte_arrays::tail;
 
 /// The block list of a write and the data after it.
 #[derive(Clone, Copy)]

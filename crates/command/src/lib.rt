@@ -1,4 +1,6 @@
 //! Commands: what a frame asks, the tests of a request's header, and the time slot of a reply.
+#![tactic(auto)]
+
 mod bench;
 mod command;
 mod header;

@@ -1,4 +1,6 @@
 //! The frame CRC: sixteen bits, generator 1021h, start 0000h, highest bit first, no final xor.
+#![tactic(auto)]
+
 ghost use Rattle.std.specs.Prelude.{◌≡◌};
 ghost use Rattle.crc.specs.Crc.{crc_bit, crc_byte, crc_after, crc_of};
 ghost use Rattle.crc.specs.Laws.{CrcJoins, CrcFits};

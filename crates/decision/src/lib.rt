@@ -1,4 +1,6 @@
 //! What a hopper decides on a read or a write, from its public state alone: no key is known here, nor the data of a write.
+#![tactic(auto)]
+
 mod numbers;
 mod read;
 mod view;

@@ -1,5 +1,5 @@
 -- What a computed test says at each number.
-use Rattle.std.proofs.Common.{◌≡◌, ℕ, zero, suc, ◌<◌, Bool, true, false, ◌&&◌, T, eqb, ◌⊎◌, List, sym, refl, subst, inl, inr, le_of_suc-le-suc, eq-or-lt_of_le, arith, eqb→eq}
+use Rattle.std.proofs.Common.{◌≡◌, ℕ, zero, suc, ◌<◌, Bool, true, false, ◌&&◌, T, eqb, List, sym, subst, inl, inr, le_of_suc-le-suc, eq-or-lt_of_le, arith, eqb→eq}
 use Rattle.des.specs.Des.{boxed}
 use Rattle.des.specs.Rows.{all_below, digit_at, hold_boxes}
 

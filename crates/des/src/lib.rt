@@ -1,4 +1,6 @@
 //! The Data Encryption Algorithm, three times over one block.
+#![tactic(auto)]
+
 mod bits;
 mod block;
 mod boxes;

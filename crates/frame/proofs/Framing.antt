@@ -1,13 +1,13 @@
 -- The proofs of the laws of frames.
-use Rattle.std.proofs.Common.{◌≡◌, ℕ, ◌+◌, ◌-◌, ◌/◌, ◌%◌, ◌<◌, ◌≤◌, Bool, true, false, cond, ◌&&◌, eqb, leb, List, [], ◌∷◌, ◌++◌, length, get_or, take, drop, Some, None, sym, refl, ap, ◌∙◌, add-one, arith, length-append, rules}
-use Rattle.std.proofs.lemmas.List.{same_lists, places, take-append-drop, drop_more, drop_all, drop-drop, take_at, drop_at, get_or_at, get_or-append-add}
+use Rattle.std.proofs.Common.{◌≡◌, ℕ, ◌+◌, ◌-◌, ◌/◌, ◌%◌, ◌≤◌, Bool, true, false, cond, List, [], ◌∷◌, ◌++◌, length, get_or, take, drop, Some, None, sym, refl, ap, ◌∙◌, add-one, arith, length-append, rules}
+use Rattle.std.proofs.lemmas.List.{places, take-append-drop, drop_more, drop_all, drop-drop, take_at, get_or_at, get_or-append-add}
 use Rattle.std.proofs.lemmas.Bool.Decides.{nat_tests}
 use Rattle.std.proofs.lemmas.Bool.{and_parts, eqb-true, leb-true}
 use Rattle.std.specs.List.{between}
 use Rattle.crc.specs.Crc.{crc_of}
 use Rattle.frame.specs.Memory.{written}
 use Rattle.frame.proofs.Written.{written_back}
-use Rattle.frame.specs.Frames.{frame_of, covered, framed, unframed, opens_frame}
+use Rattle.frame.specs.Frames.{frame_of, covered, framed, unframed}
 
 -- what a frame shows at its places
 pub length-frame : (p : List ℕ) → length (frame_of p) ≡ length p + 11

@@ -1,5 +1,5 @@
 -- Runs of bytes written into memory.
-use Rattle.std.proofs.Common.{◌≡◌, ℕ, ◌+◌, ◌-◌, ◌<◌, ◌≤◌, List, [], ◌∷◌, ◌++◌, length, get_or, take, drop, sym, refl, ap, ◌∙◌, append_assoc, add-zero, add_assoc, arith, length-append, rules}
+use Rattle.std.proofs.Common.{◌≡◌, ℕ, ◌+◌, ◌≤◌, List, [], ◌++◌, length, take, drop, add-zero, arith, rules}
 use Rattle.std.proofs.lemmas.List.{same_lists, places, take-append-drop, take_at, drop_at, length-take-le}
 use Rattle.frame.specs.Memory.{written}
 

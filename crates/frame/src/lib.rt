@@ -1,4 +1,6 @@
 //! Frames: a packet taken out of received bytes, and one written into lent memory.
+#![tactic(auto)]
+
 mod frame;
 mod reply_memory;
 

@@ -3,6 +3,8 @@
 //! `slot` for the slot of a random byte and the number of the last slot; `hear` for what the bytes ask. Each answer is a line
 //! of capital hexadecimal. The files stdin and stdout beside this folder were written by the second program; the gate
 //! compares.
+#![tactic(auto)]
+
 mod digits;
 mod heard;
 

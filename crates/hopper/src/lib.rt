@@ -1,4 +1,6 @@
 //! One hopper without its keys: what follows from its cells, what its blocks read as, what a write stores.
+#![tactic(auto)]
+
 mod read;
 mod store;
 mod window;

@@ -1,4 +1,6 @@
 //! The journal: a write is laid into a buffer and marked there before it goes home, so that it is done whole or not at all.
+#![tactic(auto)]
+
 mod burn;
 mod entry;
 mod marks;

@@ -1,5 +1,5 @@
 -- One byte more of digits read, and of digits written.
-use Rattle.std.proofs.Common.{◌≡◌, ℕ, zero, suc, ◌+◌, ◌-◌, ◌*◌, ◌/◌, ◌%◌, ◌<◌, ◌≤◌, List, [], ◌∷◌, ◌++◌, length, get_or, take, drop, set, sym, refl, ap, ◌∙◌, append_assoc, arith, length-set}
+use Rattle.std.proofs.Common.{◌≡◌, ℕ, suc, ◌+◌, ◌-◌, ◌*◌, ◌/◌, ◌%◌, ◌<◌, ◌≤◌, List, [], ◌∷◌, ◌++◌, length, get_or, take, drop, set, refl, append_assoc, arith, length-set}
 use Rattle.std.proofs.lemmas.List.{take_more_set, take_all, append-nil, drop_more, drop_all}
 use Rattle.keyline.specs.Hex.{byte_at, bytes_at, capital, hex_of}
 

@@ -1,6 +1,8 @@
 //! Derives the card keys of hoppers. Standard input has a line for each: a master key (48 hexadecimal digits), one
 //! space, an ID (32 digits). For each line the ID and its diversified key are printed; a line of another form is
 //! reported on standard error by its number, and the next one follows.
+#![tactic(auto)]
+
 use keyline::example::EXAMPLE;
 use keyline::line::derived_line;
 use std::io;

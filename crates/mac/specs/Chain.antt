@@ -1,6 +1,6 @@
 -- Chained tags, for any block cipher E under a fixed key.
 use Rattle.std.specs.Prelude.{ℕ, List, [], ◌∷◌, reverse}
-use Rattle.bytes.specs.Blocks.{xored}
+use Rattle.byte_arrays.specs.Blocks.{xored}
 
 -- a chain at v takes eight text bytes t, turned round, to this
 abbrev pub chain_step : (List ℕ → List ℕ) → List ℕ → List ℕ → List ℕ

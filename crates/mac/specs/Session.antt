@@ -1,6 +1,6 @@
 -- Session keys: E is the cipher as a function of key bytes and a block.
 use Rattle.std.specs.Prelude.{ℕ, List, ◌++◌, reverse}
-use Rattle.bytes.specs.Blocks.{xored, front_half, back_half}
+use Rattle.byte_arrays.specs.Blocks.{xored, front_half, back_half}
 use Rattle.mac.specs.declared.session.SessionKeys.{SessionKeys}
 
 -- the halves of sixteen bytes, each turned round

@@ -4,7 +4,7 @@ ghost use Rattle.cipher.specs.Keys.{answered, under_key};
 ghost use Rattle.mac.specs.Chain.{chain_step, tagged};
 
 use crate::reversal::turn_round;
-use bytes::xor8;
+use byte_arrays::xor8;
 use cipher::{Cipher, KeyError};
 
 /// One step of a chain: eight text bytes, turned round, onto `v`.
@@ -15,7 +15,7 @@ fn step<C: Cipher>(
     t: [u8; 8],
     sheet: &mut [u64; 16],
 ) -> [u8; 8]
-    ensures value { result ≡ chain_step (enciphered (key_bytes key.now)) v t }
+    ensures value { result ≡ chain_step (C.enciphered (C.key_bytes key.now)) v t }
     ensures wiped { sheet.new ≡ replicate 16 0 }
 {
     cipher.encrypt(key, xor8(v, &turn_round(t)), sheet)
@@ -29,7 +29,7 @@ pub fn tag<C: Cipher>(
     text: &[[u8; 8]],
     sheet: &mut [u64; 16],
 ) -> [u8; 8]
-    ensures value { result ≡ tagged (enciphered (key_bytes key.now)) start text.now }
+    ensures value { result ≡ tagged (C.enciphered (C.key_bytes key.now)) start text.now }
     ensures wiped { sheet.new ≡ replicate 16 0 }
 {
     // a text of no groups meets no cipher that would clear the sheet
@@ -50,7 +50,7 @@ pub fn tag_under<C: Cipher>(
     text: &[[u8; 8]],
     sheet: &mut [u64; 16],
 ) -> Result<[u8; 8], KeyError>
-    ensures answer { answered result ≡ under_key key_length key.now (tagged (enciphered key.now) start text.now) }
+    ensures answer { answered result ≡ under_key C.key_length key.now (tagged (C.enciphered key.now) start text.now) }
     ensures wiped { sheet.new ≡ replicate 16 0 }
 {
     let key = cipher.key(key, sheet)?;

@@ -1,4 +1,6 @@
 //! Block memories: a fixed number of cells, each good with sixteen bytes, or torn.
+#![tactic(auto)]
+
 ghost use Rattle.std.specs.Prelude.{◌≡◌, List, length};
 ghost use Rattle.std.specs.List.{AllByRecursion as All, slice_get};
 ghost use Rattle.memory.specs.declared.cell.Cell.{Cell};

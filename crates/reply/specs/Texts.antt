@@ -1,6 +1,6 @@
 -- The texts that the tags of a reply are taken over, in groups of eight bytes.
 use Rattle.std.specs.Prelude.{ℕ, ◌%◌, cond, List, [], ◌∷◌, ◌++◌, length, take, drop, replicate, ◌==◌, nat_le, nat_lt, slice_index}
-use Rattle.bytes.specs.Blocks.{front_half, back_half}
+use Rattle.byte_arrays.specs.Blocks.{front_half, back_half}
 use Rattle.reply.specs.declared.text.Text.{Text}
 
 -- a block as two groups

@@ -4,7 +4,7 @@ ghost use Rattle.reply.specs.Texts.{halved, lead_of, text_grown, text_in};
 
 use crate::lead::lead_group;
 use crate::text::Text;
-use bytes::halves;
+use byte_arrays::halves;
 
 impl Text {
     /// The text of a read of these blocks, before the first of them.

@@ -1,4 +1,6 @@
 //! Replies: the text that their tags are taken over, and their packets.
+#![tactic(auto)]
+
 mod growing;
 mod lead;
 mod packet;

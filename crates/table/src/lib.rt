@@ -1,4 +1,6 @@
 //! What an indicator keeps besides its memory: four volatile records, the mode, and the reply that it owes.
+#![tactic(auto)]
+
 mod mode;
 mod record;
 mod records;

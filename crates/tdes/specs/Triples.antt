@@ -1,6 +1,6 @@
 -- Triple DES on eight bytes, with two keys and with three.
 use Rattle.std.specs.Prelude.{ℕ, List}
-use Rattle.bytes.specs.Words.{word64, bytes64}
+use Rattle.byte_arrays.specs.Words.{word64, bytes64}
 use Rattle.des.specs.Des.{triple}
 
 -- eight bytes under sixteen key bytes, the first eight used twice

@@ -3,7 +3,7 @@ ghost use Rattle.tdes.specs.Triples.{three_key};
 ghost use Rattle.std.proofs.Common.{rules};
 
 use crate::words::word64_at;
-use bytes::copied;
+use byte_arrays::copied;
 use cipher::{Cipher, KeyError, Sheet};
 use des::triple::triple_des;
 

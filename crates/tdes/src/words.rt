@@ -1,6 +1,6 @@
 //! Eight bytes as a number, the high byte first.
 ghost use Rattle.std.specs.Prelude.{◌≡◌, ◌+◌, ◌≤◌, length};
-ghost use Rattle.bytes.specs.Words.{word64};
+ghost use Rattle.byte_arrays.specs.Words.{word64};
 
 /// The number that the eight bytes from `at` on write.
 pub fn word64_at(bytes: &[u8], at: usize) -> u64

@@ -1,6 +1,6 @@
 //! A case: what is made, by which cipher, of which byte strings; and its result by the library.
 use crate::text::print_field;
-use bytes::copied;
+use byte_arrays::copied;
 use cipher::Cipher;
 use cmac::diversified::diversified_key;
 use cmac::message::cmac;

@@ -1,4 +1,6 @@
 //! What a hopper keeps while it has power, and forgets without.
+#![tactic(auto)]
+
 mod radio;
 mod record;
 mod state;

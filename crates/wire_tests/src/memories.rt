@@ -24,67 +24,78 @@ fn is_torn<M: BlockMemory>(memory: &M, n: usize) -> bool {
     matches!(memory.read(n), Ok(Cell::Torn))
 }
 
-fn check_reads_back<M: BlockMemory>(rt: &impl Abort, memory: &mut M) -> Result<(), Fail> {
-    assert!(rt; memory.write(1, &[7; 16]).is_ok());
-    assert!(rt; holds(memory, 0, 0));
-    assert!(rt; holds(memory, 1, 7));
-    Ok(())
+fn check_reads_back<M: BlockMemory>(rt: &impl Abort, kind: &str, memory: &mut M) {
+    assert!(rt; memory.write(1, &[7; 16]).is_ok(), "{kind}");
+    assert!(rt; holds(memory, 0, 0), "{kind}");
+    assert!(rt; holds(memory, 1, 7), "{kind}");
 }
 
 #[test]
 fn a_written_cell_reads_back(rt: HostRuntime) -> Result<(), Fail> {
     check_reads_back(
         &rt,
+        "plain",
         &mut Plain {
             bytes: zeros(rt.alloc())?,
         },
-    )
-    .note("plain")?;
+    );
     check_reads_back(
         &rt,
+        "checked",
         &mut Checked {
             bytes: zeros(rt.alloc())?,
         },
-    )
-    .note("checked")
+    );
+    Ok(())
 }
 
-fn check_outcomes<M: BlockMemory>(rt: &impl Abort, memory: &mut M) -> Result<(), Fail> {
-    assert!(rt; memory.cut_write(1, &[7; 16], Outcome::New).is_ok());
-    assert!(rt; holds(memory, 1, 7));
-    assert!(rt; memory.cut_write(1, &[9; 16], Outcome::Old).is_ok());
-    assert!(rt; holds(memory, 1, 7));
-    assert!(rt; memory.cut_write(1, &[9; 16], Outcome::Torn).is_ok());
-    assert!(rt; is_torn(memory, 1));
-    assert!(rt; holds(memory, 0, 0));
-    Ok(())
+fn check_outcomes<M: BlockMemory>(rt: &impl Abort, kind: &str, memory: &mut M) {
+    assert!(rt;
+        memory.cut_write(1, &[7; 16], Outcome::New).is_ok(),
+        "{kind}"
+    );
+    assert!(rt; holds(memory, 1, 7), "{kind}");
+    assert!(rt;
+        memory.cut_write(1, &[9; 16], Outcome::Old).is_ok(),
+        "{kind}"
+    );
+    assert!(rt; holds(memory, 1, 7), "{kind}");
+    assert!(rt;
+        memory.cut_write(1, &[9; 16], Outcome::Torn).is_ok(),
+        "{kind}"
+    );
+    assert!(rt; is_torn(memory, 1), "{kind}");
+    assert!(rt; holds(memory, 0, 0), "{kind}");
 }
 
 #[test]
 fn a_cut_write_leaves_each_outcome(rt: HostRuntime) -> Result<(), Fail> {
     check_outcomes(
         &rt,
+        "plain",
         &mut Plain {
             bytes: zeros(rt.alloc())?,
         },
-    )
-    .note("plain")?;
+    );
     check_outcomes(
         &rt,
+        "checked",
         &mut Checked {
             bytes: zeros(rt.alloc())?,
         },
-    )
-    .note("checked")
+    );
+    Ok(())
 }
 
 /// The part cell does not count, and every call on it is turned down.
-fn check_turned_down<M: BlockMemory>(rt: &impl Abort, memory: &mut M) -> Result<(), Fail> {
-    assert_eq!(rt; memory.count(), 2);
-    assert!(rt; memory.read(2).is_err());
-    assert!(rt; memory.write(2, &[7; 16]).is_err());
-    assert!(rt; memory.cut_write(2, &[7; 16], Outcome::Torn).is_err());
-    Ok(())
+fn check_turned_down<M: BlockMemory>(rt: &impl Abort, kind: &str, memory: &mut M) {
+    assert_eq!(rt; memory.count(), 2, "{kind}");
+    assert!(rt; memory.read(2).is_err(), "{kind}");
+    assert!(rt; memory.write(2, &[7; 16]).is_err(), "{kind}");
+    assert!(rt;
+        memory.cut_write(2, &[7; 16], Outcome::Torn).is_err(),
+        "{kind}"
+    );
 }
 
 #[test]
@@ -92,12 +103,12 @@ fn turned_down_calls_change_no_byte(rt: HostRuntime) -> Result<(), Fail> {
     let mut plain = Plain {
         bytes: zeros(rt.alloc())?,
     };
-    check_turned_down(&rt, &mut plain).note("plain")?;
+    check_turned_down(&rt, "plain", &mut plain);
     assert_eq!(rt; plain.bytes, zeros(rt.alloc())?, "plain");
     let mut checked = Checked {
         bytes: zeros(rt.alloc())?,
     };
-    check_turned_down(&rt, &mut checked).note("checked")?;
+    check_turned_down(&rt, "checked", &mut checked);
     assert_eq!(rt; checked.bytes, zeros(rt.alloc())?, "checked");
     Ok(())
 }

@@ -1,7 +1,7 @@
 -- XTEA, by Needham and Wheeler: 64-bit blocks, 128-bit keys, 32 cycles, words of 32 bits.
 use Rattle.std.specs.Prelude.{ℕ, zero, suc, ◌+◌, ◌*◌, ◌/◌, ◌%◌, ◌^◌, List, [], ◌∷◌, get_or}
 use Rattle.std.specs.Int.Bits.{bit_xor}
-use Rattle.bytes.specs.Words.{word32, bytes64}
+use Rattle.byte_arrays.specs.Words.{word32, bytes64}
 
 -- a sum of words
 abbrev pub plus : ℕ → ℕ → ℕ

@@ -1,10 +1,12 @@
 //! XTEA with 32 cycles, over 32-bit words with the high byte first.
+#![tactic(auto)]
+
 ghost use Rattle.std.specs.Prelude.{◌≡◌, ◌+◌, ◌*◌, ◌^◌, ◌≤◌, length};
-ghost use Rattle.bytes.specs.Words.{word32};
+ghost use Rattle.byte_arrays.specs.Words.{word32};
 ghost use Rattle.xtea.specs.Xtea.{half_cycle, cycles, xtea as xtea_of};
 ghost use Rattle.std.proofs.Common.{rules};
 
-use bytes::copied;
+use byte_arrays::copied;
 use cipher::{Cipher, KeyError, Sheet};
 
 #[derive(Drop)]

@@ -4,4 +4,4 @@ use Rattle.crc.specs.Crc.{crc_bits}
 use Rattle.crc.proofs.crc_byte.Given as goal
 
 abbrev pub invariant-loop-bit : goal.invariant-loop-bit
-invariant-loop-bit l = l.divided ≡ crc_bits l.-bit l.initial.divided
+invariant-loop-bit l = l.divided ≡ crc_bits l._bit l.initial.divided

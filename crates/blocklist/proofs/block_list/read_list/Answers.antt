@@ -1,4 +1,4 @@
-use Rattle.std.proofs.Common.{◌≡◌, ℕ, ◌+◌, ◌-◌, drop, ap, arith}
+use Rattle.std.proofs.Common.{ℕ, ◌+◌, ◌-◌, drop, ap, arith}
 use Rattle.blocklist.proofs.Reading.{pair_of, read_none, turn_some, turn_none}
 use Rattle.blocklist.proofs.block_list.read_list.Goals as goal
 

@@ -10,12 +10,12 @@ loop-number-preserved g c =
     let grown =
     c.add.ensures.text
     ∙ cond-true _ _ _ (le-leb c.loop-number.text.count 7 (omega arith))
-    ∙ ap (λ b. text ++ halved b) c.block-sent-block.ensures.value in
+    ∙ ap (λ b. text ++ halved b) c.block_sent-block.ensures.value in
     (text_more _ _ text _ c.args.numbers.now c.loop-number.number-index c.loop-number-test.true grown ∙ c.loop-number.invariant.0, search rules, search rules)
 
 pub returns : goal.returns
 returns g c =
     record {
-      value = sym (text_all _ _ (text_in c.loop-number.text) c.args.numbers.now c.loop-number.number-index c.loop-number-test.false) ∙ c.loop-number.invariant.0 ∙ text_from _ _ c.args.numbers.now c.led-by-text.ensures.text;
+      value = sym (text_all _ _ (text_in c.loop-number.text) c.args.numbers.now c.loop-number.number-index c.loop-number-test.false) ∙ c.loop-number.invariant.0 ∙ text_from _ _ c.args.numbers.now c.led_by-text.ensures.text;
       wiped = c.loop-number.invariant.2;
     }

@@ -1,4 +1,4 @@
-use Rattle.std.proofs.Common.{◌≡◌, ◌-◌, ◌*◌, length, drop, replicate}
+use Rattle.std.proofs.Common.{◌≡◌, ◌-◌, ◌*◌, drop, replicate}
 use Rattle.cmac.specs.Cmac.{cbc}
 use Rattle.cmac.proofs.message.cbc.Given as goal
 

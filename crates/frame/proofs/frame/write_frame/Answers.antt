@@ -1,6 +1,5 @@
-use Rattle.std.proofs.Common.{◌≡◌, ℕ, ◌+◌, ◌/◌, ◌%◌, List, [], ◌∷◌, ◌++◌, length, refl, ap, ◌∙◌, arith, length-append}
+use Rattle.std.proofs.Common.{ℕ, ◌+◌, ◌/◌, ◌%◌, List, [], ◌∷◌, ◌++◌, length, refl, arith, length-append}
 use Rattle.frame.specs.Frames.{frame_of}
-use Rattle.frame.specs.Memory.{written}
 use Rattle.frame.proofs.Written.{written_more}
 use Rattle.frame.proofs.frame.write_frame.Goals as goal
 
@@ -9,7 +8,7 @@ unfolding frame_of
 returns c =
     let n : ℕ = length c.args.packet.now in
     let head : List ℕ = 0 ∷ 0 ∷ 0 ∷ 0 ∷ 0 ∷ 0 ∷ 0xB2 ∷ 0x4D ∷ (n + 1) ∷ [] in
-    let s : ℕ = c.frame-crc-crc.result in
+    let s : ℕ = c.frame_crc-crc.result in
     let one = written_more c.args.memory.now c.args.at head c.args.packet.now (c.args.at + 9) refl (omega arith) in
     let two = written_more c.args.memory.now c.args.at (head ++ c.args.packet.now) (s / 256 ∷ s % 256 ∷ []) (c.args.at + 9 + n)
     (simp length-append (omega arith)) (simp length-append (omega arith)) in

@@ -3,4 +3,4 @@ use Rattle.hopper.proofs.read.read_block.Goals as goal
 
 pub returns : goal.returns
 unfolding reads_as
-returns c = c.block-read.ensures
+returns c = c.block_read.ensures

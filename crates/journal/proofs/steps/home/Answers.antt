@@ -3,4 +3,4 @@ use Rattle.journal.proofs.steps.home.Goals as goal
 
 pub returns : goal.returns
 unfolding home
-returns c = record { value = c.home-of.ensures.value; small = c.home-of.ensures.small }
+returns c = record { value = c.home_of.ensures.value; small = c.home_of.ensures.small }

@@ -3,4 +3,4 @@ use Rattle.journal.proofs.steps.mark_bytes.Goals as goal
 
 pub returns : goal.returns
 unfolding mark_bytes
-returns c = c.mark-of.ensures
+returns c = c.mark_of.ensures

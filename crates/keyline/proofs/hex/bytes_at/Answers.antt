@@ -8,7 +8,7 @@ loop-i-init g c = (bytes_start g.row.N c.args.at c.args.text.now, length-replica
 
 pub loop-i-preserved : goal.loop-i-preserved
 loop-i-preserved g c =
-    (bytes_more g.row.N c.loop-i.i c.args.at c.byte-at.result c.args.text.now c.loop-i.bytes (omega arith) (omega arith) c.byte-at.ensures ∙ c.loop-i.invariant.0, simp length-set c.loop-i.invariant.1)
+    (bytes_more g.row.N c.loop-i.i c.args.at c.byte_at.result c.args.text.now c.loop-i.bytes (omega arith) (omega arith) c.byte_at.ensures ∙ c.loop-i.invariant.0, simp length-set c.loop-i.invariant.1)
 
 pub returns : goal.returns
 returns g c = sym (bytes_all g.row.N c.loop-i.i c.args.at c.args.text.now c.loop-i.bytes (omega arith) (omega arith)) ∙ c.loop-i.invariant.0

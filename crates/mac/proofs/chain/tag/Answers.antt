@@ -9,6 +9,6 @@ loop-t-preserved g c =
 pub returns : goal.returns
 returns g c =
     record {
-      value = c.turn-round.ensures ∙ ap reverse (sym (chained_all _ c.loop-t.v c.args.text.now c.loop-t.t-index c.loop-t-test.false) ∙ c.loop-t.invariant.0);
+      value = c.turn_round.ensures ∙ ap reverse (sym (chained_all _ c.loop-t.v c.args.text.now c.loop-t.t-index c.loop-t-test.false) ∙ c.loop-t.invariant.0);
       wiped = c.loop-t.invariant.1;
     }

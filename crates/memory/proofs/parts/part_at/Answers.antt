@@ -6,10 +6,10 @@ use Rattle.memory.specs.Parts.{part}
 use Rattle.memory.specs.PartLaws.{nth_part, nth_no_part, length_part}
 use Rattle.memory.proofs.parts.part_at.Goals as goal
 
-pub returns-in-err-start : goal.returns-in-err-start
-returns-in-err-start c =
-    let p = err_from_is_err_and c.from-residual.result c.from-residual.ensures.1 in
-    let met = c.in-err-start.ensures in
+pub returns-in_err-start : goal.returns-in_err-start
+returns-in_err-start c =
+    let p = err_from_is_err_and c.from_residual.result c.from_residual.ensures.1 in
+    let met = c.in_err-start.ensures in
     rw p.1 (record {
       value = sym (nth_no_part c.args.size c.args.bytes.now c.args.n met.start);
       number = ap error_number p.2 ∙ met.number;
@@ -21,8 +21,8 @@ returns c =
     let size : ℕ = c.args.size in
     let bytes : List ℕ = c.args.bytes.now in
     let n : ℕ = c.args.n in
-    let start : ℕ = c.in-ok-start.start in
-    let met = c.in-ok-start.ensures in
+    let start : ℕ = c.in_ok-start.start in
+    let met = c.in_ok-start.ensures in
     let found = met.start in
     let many : start + size - start ≡ size = omega arith in
     let at : start ≡ n * size = found.0 in

@@ -1,4 +1,6 @@
 //! Bytes in arrays and blocks: what the ciphers and what stands on them share.
+#![tactic(auto)]
+
 mod arrays;
 mod blocks;
 mod parts;

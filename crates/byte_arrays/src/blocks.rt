@@ -1,7 +1,7 @@
 //! Blocks of eight bytes: combined bit by bit, put together, and taken apart.
 ghost use Rattle.std.specs.Prelude.{◌≡◌, ◌<◌, ◌++◌, bit_xor, slice_index};
-ghost use Rattle.bytes.specs.Blocks.{xored, front_half, back_half};
-ghost use Rattle.bytes.specs.Equality.{same_bytes};
+ghost use Rattle.byte_arrays.specs.Blocks.{xored, front_half, back_half};
+ghost use Rattle.byte_arrays.specs.Equality.{same_bytes};
 
 /// The byte at a place of two blocks' exclusive or.
 fn xor_at(a: &[u8; 8], b: &[u8; 8], i: usize) -> u8

@@ -2,7 +2,7 @@
 use Rattle.std.proofs.Common.{◌≡◌, ℕ, ◌+◌, ◌<◌, ◌≤◌, List, ◌++◌, length, get_or, take, drop, set, append_assoc, arith}
 use lib.Bits.{bit_xor}
 use Rattle.std.proofs.lemmas.List.{take_more_set, take_all, append-nil, drop-set-lt, drop_more, drop_all}
-use Rattle.bytes.specs.Blocks.{xored}
+use Rattle.byte_arrays.specs.Blocks.{xored}
 
 pub xored_more : (a b : List ℕ) (i x : ℕ) → i < length a → i < length b → x ≡ bit_xor (get_or a i 0) (get_or b i 0)
     → take (i + 1) (set a i x) ++ xored (drop (i + 1) (set a i x)) (drop (i + 1) b) ≡ take i a ++ xored (drop i a) (drop i b)
