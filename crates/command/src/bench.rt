@@ -1,8 +1,8 @@
 //! Worked cases.
-ghost use Rattle.std.specs.List.{AllByRecursion as All};
+ghost use Rattle.std.specs.List.{AllByRecursion};
 ghost use Rattle.command.specs.Bench.{bench, holds};
 
 /// Every worked case holds.
 pub fn worked_cases()
-    ensures { All holds bench }
+    ensures { AllByRecursion holds bench }
 {}

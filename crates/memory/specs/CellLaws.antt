@@ -2,7 +2,7 @@
 use Rattle.std.specs.Prelude.{◌≡◌, ℕ, zero, suc, ◌+◌, ◌*◌, ◌/◌, ◌%◌, ◌<◌, ◌≤◌, Bool, true, false, cond, List, [], ◌∷◌, ◌++◌, map, length, get_or, take, set, replicate, ◌==◌, slice_index, slice_index_or, slice_set, refl}
 use Rattle.std.proofs.Common.{arith, sym, ap, ◌∙◌}
 use Rattle.std.specs.Option.{option_map}
-use Rattle.std.specs.List.{AllByRecursion as All, slice_get}
+use Rattle.std.specs.List.{AllByRecursion, slice_get}
 use Rattle.std.proofs.ByRecursion.{All-map, All-from_get_or}
 use Rattle.std.proofs.lemmas.List.{map-set, length-map, length-append, length-take-le, take_at, get_or_at, get_or-append-add}
 use Rattle.std.proofs.lemmas.Bool.{cond-true, eq-eqb}
@@ -72,7 +72,7 @@ cut_bytes layout torn fills holds old new n block outcome.Torn e =
     record { open_bytes = torn; fill = fills; hold_torn = holds; stand_there = e }
 
 -- every good cell has sixteen bytes
-pub all_sixteen : (layout : Layout) → Lawful layout → (bytes : List ℕ) → All SixteenBytes (cells_in layout bytes)
+pub all_sixteen : (layout : Layout) → Lawful layout → (bytes : List ℕ) → AllByRecursion SixteenBytes (cells_in layout bytes)
 all_sixteen layout laws bytes =
     All-map SixteenBytes layout.cell_in (parts layout.size bytes)
     (All-from_get_or (λ p. SixteenBytes (layout.cell_in p)) (parts layout.size bytes) []

@@ -2,7 +2,7 @@
 #![tactic(auto)]
 
 ghost use Rattle.std.specs.Prelude.{◌≡◌, List, length};
-ghost use Rattle.std.specs.List.{AllByRecursion as All, slice_get};
+ghost use Rattle.std.specs.List.{AllByRecursion, slice_get};
 ghost use Rattle.memory.specs.declared.cell.Cell.{Cell};
 ghost use Rattle.memory.specs.Answers.{answered, number_of, number_at};
 ghost use Rattle.memory.specs.Cells.{cells_written, cells_cut, SixteenBytes};
@@ -41,5 +41,5 @@ pub trait BlockMemory {
         ensures number { number_of result ≡ number_at (length (cells self.old)) n };
 
     /// Every good cell has sixteen bytes, in each state of the memory, also one that no call of this trait made.
-    ghost sixteen: { (memory : Self) → All SixteenBytes (cells memory) };
+    ghost sixteen: { (memory : Self) → AllByRecursion SixteenBytes (cells memory) };
 }
