@@ -1,5 +1,5 @@
 -- Whether a block may be written, and whether a write to it needs a MAC.
-use Rattle.std.specs.Prelude.{◌≡◌, ℕ, ◌<◌, Bool, true, false, cond, not, ◌&&◌, ◌||◌, ◌⊎◌, List, ◌==◌, nat_lt}
+use Rattle.std.specs.Prelude.{ℕ, Bool, true, false, cond, not, ◌&&◌, ◌||◌, List, ◌==◌, nat_lt}
 use Rattle.blocks.specs.declared.stage.Stage.{Stage}
 use Rattle.blocks.specs.declared.permission.Permission.{Permission}
 use Rattle.blocks.specs.declared.permission.Permission.TheVariants.{ReadOnly, ReadWrite, ReadWriteMac}

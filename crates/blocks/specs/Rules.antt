@@ -1,5 +1,5 @@
 -- Permission, rule by rule: what the one definition comes to for each kind of block.
-use Rattle.std.specs.Prelude.{◌≡◌, ℕ, ◌<◌, Bool, true, false, not, ◌&&◌, ◌||◌, eqb, ◌⊎◌, List}
+use Rattle.std.specs.Prelude.{◌≡◌, ℕ, ◌<◌, true, not, ◌||◌, ◌⊎◌, List}
 use Rattle.blocks.specs.declared.stage.Stage.{Stage}
 use Rattle.blocks.specs.declared.permission.Permission.{Permission}
 use Rattle.blocks.specs.Configs.{config_open, keys_open, scratch_open, scratch_signed, state_signed}

@@ -1,12 +1,12 @@
 -- The parts of what a call comes to, put together.
-use Rattle.std.proofs.Common.{◌≡◌, ℕ, cond, List, replicate, Some, Option, Result, sym, ap, ◌∙◌, subst}
+use Rattle.std.proofs.Common.{◌≡◌, ℕ, List, replicate, Some, Result, sym, ap, ◌∙◌}
 use Rattle.cipher.specs.declared.key_error.KeyError.{KeyError}
 use Rattle.cipher.specs.Keys.{answered_as}
 use Rattle.command.specs.Commands.{Asked}
 use Rattle.memory.specs.declared.cell.Cell.{Cell}
 use Rattle.volatile.specs.declared.record.Volatile.{Volatile}
 use Rattle.card.specs.declared.outcome.Outcome.{Outcome}
-use Rattle.card.specs.Outcomes.{Reacted, Shown, outcome, reacted, reacted_as, shown_by}
+use Rattle.card.specs.Outcomes.{outcome, reacted, reacted_as, shown_by}
 use Rattle.card.specs.Reactions.{reaction, response}
 use Rattle.card.specs.Signatures.{CipherFunction}
 

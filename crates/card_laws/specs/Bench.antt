@@ -1,5 +1,5 @@
 -- Worked cases of the rules.
-use Rattle.std.specs.Prelude.{◌≡◌, ℕ, Bool, true, false, List, [], ◌∷◌, ◌++◌, replicate, Some, Ok, slice_index, slice_set}
+use Rattle.std.specs.Prelude.{◌≡◌, ℕ, Bool, true, false, List, [], ◌∷◌, replicate, Some, Ok, slice_index, slice_set}
 use Rattle.blocklist.specs.Elements.{element_of, named}
 use Rattle.blocks.specs.declared.stage.Stage.TheVariants.{Issuing, Issued}
 use Rattle.blocks.specs.Cells.{cell_number}

@@ -1,4 +1,2 @@
--- The laws of one hopper's card.
-pub mod Outlines
-pub mod Laws
+-- The worked cases of one hopper's card.
 pub mod Bench

@@ -1,5 +1,5 @@
 -- The decision on a read.
-use Rattle.std.specs.Prelude.{ℕ, Bool, cond, not, ◌&&◌, ◌||◌, List, [], ◌∷◌, ◌++◌, length, Ok, Err, Result, ◌==◌}
+use Rattle.std.specs.Prelude.{ℕ, Bool, not, ◌&&◌, ◌||◌, List, [], ◌∷◌, ◌++◌, length, Ok, Err, Result, ◌==◌}
 use Rattle.blocklist.specs.declared.fault.Fault.{Fault}
 use Rattle.blocklist.specs.Elements.{blocks_named}
 use Rattle.blocklist.specs.Faults.{at_element, judged, of_command}

@@ -1,5 +1,5 @@
 -- The decision on a write, up to the verdict on its MAC. It is not given the data, nor the tag.
-use Rattle.std.specs.Prelude.{ℕ, Bool, true, false, cond, not, ◌&&◌, ◌||◌, List, [], ◌∷◌, Ok, Err, Result, ◌==◌}
+use Rattle.std.specs.Prelude.{ℕ, Bool, true, false, not, ◌&&◌, ◌||◌, List, [], ◌∷◌, Err, Result, ◌==◌}
 use Rattle.blocklist.specs.declared.fault.Fault.{Fault}
 use Rattle.blocklist.specs.Elements.{blocks_named}
 use Rattle.blocklist.specs.Faults.{at_element, judged, of_command}

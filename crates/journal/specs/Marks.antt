@@ -1,8 +1,7 @@
 -- The marks of the journal, and the write that a mark notes.
-use Rattle.std.specs.Prelude.{ℕ, ◌%◌, Bool, false, cond, ◌&&◌, ◌||◌, List, [], ◌∷◌, ◌++◌, drop, replicate, Some, None, Option, ◌==◌, nat_le, nat_lt, slice_index}
+use Rattle.std.specs.Prelude.{ℕ, ◌%◌, Bool, ◌&&◌, ◌||◌, List, ◌∷◌, ◌++◌, drop, replicate, Some, None, Option, ◌==◌, nat_le, nat_lt, slice_index}
 use Rattle.blocks.specs.Cells.{cell_of}
 use Rattle.blocks.specs.Counters.{three_byte_number, three_bytes}
-use Rattle.hopper.specs.declared.store.BlockWrite.{BlockWrite}
 use Rattle.journal.specs.declared.entry.Entry.{Entry}
 
 -- the blocks that a mark may name: those that a write can reach, and WCNT for a write that moves the counter alone

@@ -1,6 +1,5 @@
 -- Modes, owed replies, and the four volatile records.
-use Rattle.std.specs.Prelude.{ℕ, Bool, true, false, List, [], ◌∷◌, replicate, Some, None, Option, slice_index_or}
-use Rattle.blocks.specs.declared.stage.Stage.{Stage}
+use Rattle.std.specs.Prelude.{ℕ, Bool, true, false, List, [], ◌∷◌, replicate, None, Option, slice_index_or}
 use Rattle.blocks.specs.declared.stage.Stage.TheVariants.{Issuing}
 use Rattle.journal.specs.declared.burn.Burn.{Burn}
 use Rattle.mac.specs.declared.session.SessionKeys.{SessionKeys}
@@ -10,7 +9,6 @@ use Rattle.table.specs.declared.mode.Cause.{Cause}
 use Rattle.table.specs.declared.mode.Cause.TheVariants.{Up, Hear}
 use Rattle.table.specs.declared.mode.Mode.{Mode}
 use Rattle.table.specs.declared.mode.Mode.TheVariants.{Off, Listening, Working}
-use Rattle.table.specs.declared.mode.Work.{Work}
 use Rattle.table.specs.declared.report.Report.{Report}
 use Rattle.table.specs.declared.slip.Slip.{Slip}
 

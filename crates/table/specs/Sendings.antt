@@ -1,5 +1,5 @@
 -- Replies on their way into reply memory.
-use Rattle.std.specs.Prelude.{ℕ, ◌+◌, Bool, cond, ◌&&◌, List, [], ◌∷◌, length, replicate, nat_le, nat_lt, slice_set}
+use Rattle.std.specs.Prelude.{ℕ, ◌+◌, Bool, ◌&&◌, List, length, replicate, nat_le, nat_lt, slice_set}
 use Rattle.frame.specs.Frames.{frame_of}
 use Rattle.frame.specs.Memory.{written}
 use Rattle.table.specs.declared.report.Report.{Report}

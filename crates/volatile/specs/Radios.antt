@@ -1,5 +1,5 @@
 -- Which commands a hopper hears.
-use Rattle.std.specs.Prelude.{ℕ, Bool, true, false, cond}
+use Rattle.std.specs.Prelude.{Bool, true, false, cond}
 use Rattle.command.specs.Commands.{Asked, polling, reading, writing, deafening, unknown}
 use Rattle.volatile.specs.declared.radio.Radio.{Radio}
 use Rattle.volatile.specs.declared.radio.Radio.TheVariants.{Open, PollShut, Deaf}

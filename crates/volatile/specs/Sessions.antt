@@ -1,5 +1,5 @@
 -- The session of a hopper, and its block STATE.
-use Rattle.std.specs.Prelude.{ℕ, Bool, true, false, cond, List, [], ◌∷◌, ◌++◌, replicate, Some, None, Option, ◌==◌, slice_index}
+use Rattle.std.specs.Prelude.{ℕ, Bool, true, false, cond, List, ◌∷◌, ◌++◌, replicate, Some, None, Option, ◌==◌, slice_index}
 use Rattle.volatile.specs.declared.radio.Radio.TheVariants.{Open}
 use Rattle.volatile.specs.declared.record.Session.{Session}
 use Rattle.volatile.specs.declared.record.Volatile.{Volatile}

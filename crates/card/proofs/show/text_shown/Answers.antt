@@ -1,4 +1,4 @@
-use Rattle.std.proofs.Common.{◌≡◌, ◌++◌, sym, ap, ◌∙◌, arith, rules}
+use Rattle.std.proofs.Common.{◌++◌, sym, ap, ◌∙◌, arith, rules}
 use Rattle.std.proofs.lemmas.Bool.{cond-true, le-leb}
 use Rattle.reply.specs.Texts.{halved, text_in}
 use Rattle.card.proofs.Steps.{text_more, text_all, text_from}
