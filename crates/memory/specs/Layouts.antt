@@ -39,7 +39,7 @@ checked = record {
 abbrev pub bytes_written : Layout → List ℕ → ℕ → List ℕ → List ℕ
 bytes_written layout old n bytes = part_put layout.size old n (layout.good_cell bytes)
 
--- After power left the cell n torn. Which bytes a torn cell has is open: `open-bytes` are whichever they are. Known of
+-- After power left the cell n torn. Which bytes a torn cell has is open: `open_bytes` are whichever they are. Known of
 -- them is that they fill the cell, that they hold a torn one, and that all bytes outside of the cell are as before.
 -- Where there is no cell n, no byte changes.
 pub record LeftTorn (layout : Layout) (old new : List ℕ) (n : ℕ) : Type 0 where

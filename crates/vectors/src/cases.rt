@@ -136,12 +136,12 @@ pub fn result(heap: Global, kind: Kind, which: Which, case: &Case) -> io::Result
 }
 
 /// The case's line, after its name.
-pub fn print_case(rt: &HostRuntime, case: &Case, res: &[u8]) -> io::Result<()> {
+pub fn print_case(rt: &HostRuntime, case: &Case, made: &[u8]) -> io::Result<()> {
     print_field(rt, &case.key)?;
     print_field(rt, &case.first)?;
     if let Some(second) = &case.second {
         print_field(rt, second)?;
     }
-    print_field(rt, res)?;
+    print_field(rt, made)?;
     println!(rt; "")
 }
