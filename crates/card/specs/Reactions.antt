@@ -12,7 +12,7 @@ use Rattle.decision.specs.Numbers.{is_tag}
 use Rattle.decision.specs.Reads.{read_decided}
 use Rattle.decision.specs.Writes.{write_planned}
 use Rattle.hopper.specs.declared.store.BlockWrite.{BlockWrite}
-use Rattle.hopper.specs.Readings.{reads_as}
+use Rattle.hopper.specs.ReadsAs.{reads_as}
 use Rattle.hopper.specs.Stores.{accepted_flags, raises, stored}
 use Rattle.hopper.specs.Windows.{card_key_in, view}
 use Rattle.mac.specs.declared.session.SessionKeys.{SessionKeys}

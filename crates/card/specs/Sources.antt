@@ -1,6 +1,6 @@
 -- What the blocks of a hopper are read from, as the code holds it.
 use Rattle.std.specs.Prelude.{ℕ, List}
-use Rattle.hopper.specs.Readings.{reads_as}
+use Rattle.hopper.specs.ReadsAs.{reads_as}
 use Rattle.card.specs.declared.show.Source.{Source}
 
 abbrev pub reads_from : Source → ℕ → List ℕ

@@ -3,7 +3,7 @@ ghost use Rattle.card.specs.Signatures.{tagger};
 ghost use Rattle.card.specs.Sources.{reads_from};
 ghost use Rattle.cipher.specs.Keys.{answered_as};
 ghost use Rattle.mac.specs.Chain.{tagged};
-ghost use Rattle.hopper.specs.Readings.{reads_as};
+ghost use Rattle.hopper.specs.ReadsAs.{reads_as};
 ghost use Rattle.reply.specs.Texts.{block_sent, tag_block, text_in, text_of};
 ghost use Rattle.std.specs.Prelude.{◌≡◌, ◌≤◌, length, replicate, Some};
 

@@ -1,4 +1,4 @@
 -- One hopper without its keys.
 pub mod Windows
-pub mod Readings
+pub mod ReadsAs
 pub mod Stores

@@ -1,5 +1,5 @@
 //! What blocks read as.
-ghost use Rattle.hopper.specs.Readings.{block_read, check_block, reads_as};
+ghost use Rattle.hopper.specs.ReadsAs.{block_read, check_block, reads_as};
 ghost use Rattle.std.specs.Prelude.{◌≡◌};
 
 use crate::window::held;

@@ -1,4 +1,4 @@
-use Rattle.hopper.specs.Readings.{reads_as}
+use Rattle.hopper.specs.ReadsAs.{reads_as}
 use Rattle.hopper.proofs.read.read_block.Goals as goal
 
 pub returns : goal.returns
