@@ -5,7 +5,7 @@ use Rattle.memory.specs.declared.cell.Cell.TheVariants as cell
 use Rattle.memory.specs.declared.cell.Outcome.{Outcome}
 use Rattle.memory.specs.declared.cell.Outcome.TheVariants as outcome
 
--- After a write: the cell n is good with the bytes given, the others as before. `set` changes nothing at or above
+-- After a write: the cell n is good with the bytes given, the others as before. `slice_set` changes nothing at or above
 -- the count.
 abbrev pub cells_written : List Cell → ℕ → List ℕ → List Cell
 cells_written cells n bytes = slice_set cells n (cell.Good bytes)

@@ -5,7 +5,7 @@ ghost use Rattle.std.specs.Prelude.{◌≡◌, true, not};
 use crate::report::Report;
 
 /// A slip of plain numbers for a reply that is owed: how many frames lie in reply memory, and how many bytes they take. It
-/// stands beside the indicator, cannot be copied, and may be let go only once it is spent, which finish and off alone make it.
+/// is to stand beside the indicator, cannot be copied, and may be let go only once it is spent.
 pub struct Slip {
     pub(crate) frames: usize,
     pub(crate) bytes: usize,
