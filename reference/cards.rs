@@ -5,7 +5,7 @@ use crate::card_blocks::counter_bytes;
 use crate::card_example;
 use crate::hex;
 use crate::mac::Cipher;
-use std::io::{self, BufRead, Write};
+use crate::questions::answer_all;
 
 // The bits of the setting byte.
 pub const XTEA: u8 = 0x01;
@@ -114,14 +114,5 @@ fn answer(line: &str) -> Option<Vec<u8>> {
 pub fn run() -> Result<(), String> {
     // The manual's reads of ID with its tags: the other answers lean on them.
     card_example::run()?;
-    let mut out = String::new();
-    for line in io::stdin().lock().lines() {
-        let line = line.map_err(|error| format!("cannot read: {error}"))?;
-        let result = answer(&line).ok_or_else(|| format!("no question: {line}"))?;
-        out += &hex::show(&result);
-        out.push('\n');
-    }
-    io::stdout()
-        .write_all(out.as_bytes())
-        .map_err(|error| format!("cannot write: {error}"))
+    answer_all(answer)
 }

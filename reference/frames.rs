@@ -3,7 +3,7 @@
 use crate::crc::crc;
 use crate::frame::{heard, make, Blocks, Command, Refusal, Request};
 use crate::hex;
-use std::io::{self, BufRead, Write};
+use crate::questions::answer_all;
 
 // The first byte of what is heard.
 const NO_FRAME: u8 = 0x00;
@@ -72,14 +72,5 @@ pub fn run() -> Result<(), String> {
     if crc(b"123456789") != 0x31C3 {
         return Err("the check of 123456789 is not 31C3".to_string());
     }
-    let mut out = String::new();
-    for line in io::stdin().lock().lines() {
-        let line = line.map_err(|error| format!("cannot read: {error}"))?;
-        let result = answer(&line).ok_or_else(|| format!("no question: {line}"))?;
-        out += &hex::show(&result);
-        out.push('\n');
-    }
-    io::stdout()
-        .write_all(out.as_bytes())
-        .map_err(|error| format!("cannot write: {error}"))
+    answer_all(answer)
 }

@@ -23,6 +23,7 @@ mod frames;
 mod hex;
 mod keys;
 mod mac;
+mod questions;
 mod random;
 mod vectors;
 mod xtea;
