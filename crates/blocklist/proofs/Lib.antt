@@ -1,3 +1,4 @@
+pub mod Firsts
 pub mod Reading
 pub mod Naming
 pub mod Parting

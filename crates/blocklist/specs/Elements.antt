@@ -1,6 +1,6 @@
 -- An element of a block list. Its first byte holds a form bit (1: two bytes, 0: three bytes), three access bits and
 -- four order bits, the highest first; the block number follows, low byte first.
-use Rattle.std.specs.Prelude.{ℕ, zero, suc, ◌+◌, ◌*◌, ◌/◌, ◌%◌, cond, not, List, [], ◌∷◌, map, length, take, drop, Some, None, Ok, Err, Option, Result, ◌==◌, nat_le, nat_lt, slice_index}
+use Rattle.std.specs.Prelude.{ℕ, zero, suc, ◌+◌, ◌*◌, ◌/◌, ◌%◌, cond, not, List, [], ◌∷◌, map, length, drop, Some, None, Ok, Err, Option, Result, ◌==◌, nat_le, nat_lt, slice_index}
 use Rattle.blocklist.specs.declared.fault.Fault.{Fault}
 use Rattle.blocklist.specs.declared.element.Element.{Element}
 use Rattle.blocklist.specs.declared.blocks.Blocks.{Blocks}
@@ -22,22 +22,16 @@ element_of bytes = element (slice_index bytes 0) (slice_index bytes 1) (cond (na
 abbrev pub first_element : List ℕ → Option (Element × ℕ)
 first_element bytes = cond (nat_le (width bytes) (length bytes)) (Some (element_of bytes, width bytes)) None
 
+-- the bytes after that element; all of them, if it is not whole
+abbrev pub after_first : List ℕ → List ℕ
+after_first bytes = cond (nat_le (width bytes) (length bytes)) (drop (width bytes) bytes) bytes
+
 -- the number that an element names; refused at place 3 are first access bits, and then order bits, that are not 0
 abbrev pub named : ℕ → Element → Result ℕ Fault
 named index e =
     cond (not (e.access == 0)) (Err (at_element 3 index 0xA7))
     (cond (not (e.order == 0)) (Err (at_element 3 index 0xA3))
     (Ok e.block))
-
--- a number with the bytes of its element, or the fault
-abbrev pub with_width : ℕ → Result ℕ Fault → Result (Option (ℕ × ℕ)) Fault
-with_width bytes (Ok block) = Ok (Some (block, bytes))
-with_width bytes (Err fault) = Err fault
-
--- what the first element names, if it is whole
-abbrev pub first_named : ℕ → List ℕ → Result (Option (ℕ × ℕ)) Fault
-first_named index bytes =
-    cond (nat_le (width bytes) (length bytes)) (with_width (width bytes) (named index (element_of bytes))) (Ok None)
 
 -- the elements that the bytes begin with, at most so many
 unfoldable pub elements : ℕ → List ℕ → List Element
@@ -66,7 +60,7 @@ blocks_named list = all_named 0 (elements 4 list)
 
 -- the numbers that are held
 abbrev pub numbers_in : Blocks → List ℕ
-numbers_in blocks = take blocks.count blocks.numbers
+numbers_in blocks = blocks.held.items
 
 -- the answer, by its case
 abbrev pub numbers_or_fault : Result Blocks Fault → Result (List ℕ) Fault

@@ -1,11 +1,6 @@
 -- A block list read by the form bits alone.
-use Rattle.std.specs.Prelude.{ℕ, zero, suc, ◌+◌, ◌*◌, Bool, cond, ◌&&◌, List, length, drop, Some, None, Option, ◌==◌, nat_le}
+use Rattle.std.specs.Prelude.{ℕ, zero, suc, ◌+◌, ◌*◌, Bool, cond, ◌&&◌, List, length, drop, ◌==◌, nat_le}
 use Rattle.blocklist.specs.Elements.{width}
-
--- where the element at an offset ends, if it is whole
-abbrev pub element_end : ℕ → List ℕ → Option ℕ
-element_end at bytes =
-    cond (nat_le (width (drop at bytes)) (length (drop at bytes))) (Some (at + width (drop at bytes))) None
 
 -- one element more, of so many bytes, before those already counted
 abbrev pub led_by : ℕ → ℕ × ℕ → ℕ × ℕ

@@ -1,21 +1,9 @@
 //! The reader of a block list: how many elements there are, and how many bytes they take.
-ghost use Rattle.std.specs.Prelude.{◌≡◌, ◌+◌, ◌≤◌, length};
-ghost use Rattle.blocklist.specs.Lists.{element_end, list_read, read_exact, write_exact};
+ghost use Rattle.std.specs.Prelude.{◌≡◌, ◌≤◌, length};
+ghost use Rattle.blocklist.specs.Lists.{list_read, read_exact, write_exact};
 ghost use Rattle.blocklist.specs.ListLaws.{ExactListsNameAll, ListsWithDataAreWrites, WritesAreListsWithData};
 
-use crate::element::first_element;
-use byte_arrays::tail;
-
-/// The offset after the element at an offset, or nothing where the bytes end before it does.
-fn after_element(bytes: &[u8], at: usize) -> Option<usize>
-    requires { at ≤ length bytes.now }
-    ensures { result ≡ element_end at bytes.now }
-{
-    match first_element(tail(bytes, at)) {
-        Some((_, width)) => Some(at + width),
-        None => None,
-    }
-}
+use crate::elements::Elements;
 
 /// Reads at most `count` elements from the start of the bytes, by their form bits alone. Answers the elements read
 /// and the bytes taken.
@@ -23,17 +11,18 @@ pub fn read_list(bytes: &[u8], count: u8) -> (u8, usize)
     ensures value { result ≡ list_read count bytes.now }
     ensures within { result.1 ≤ length bytes.now }
 {
+    // A fold would make both sums, but it was not proved of its closure that they fit.
+    let mut read = 0;
     let mut taken = 0;
-    for elements in 0..count {
-        match after_element(bytes, taken) {
-            Some(end) => taken = end,
-            None => return (elements, taken),
-        }
+    for (_, width) in Elements::of(bytes).take(usize::from(count)) {
+        read += 1;
+        taken += width;
     }
-    (count, taken)
+    (read, taken)
 }
 
 /// Whether the bytes are a list of `count` elements and nothing else.
+// One function for this and the next would be a third beside the two, which are both public.
 pub fn read_is_exact(bytes: &[u8], count: u8) -> bool
     ensures { result ≡ read_exact count bytes.now }
 {

@@ -2,7 +2,8 @@
 ghost use Rattle.blocklist.specs.Elements.{element, first_element, named};
 ghost use Rattle.std.specs.Prelude.{◌≡◌};
 
-use crate::fault::{ELEMENT_PLACE, Fault};
+use crate::fault::Fault;
+use crate::places::ELEMENT_PLACE;
 
 /// An element: three access bits, four order bits and a block number.
 #[derive(Clone, Copy)]
@@ -17,8 +18,8 @@ pub(crate) fn first_element(bytes: &[u8]) -> Option<(Element, usize)>
     ensures { result ≡ first_element bytes.now }
 {
     match bytes {
-        [head, block, ..] if *head >= 128 => Some((Element::new(*head, *block, 0), 2)),
-        [head, low, high, ..] if *head < 128 => Some((Element::new(*head, *low, *high), 3)),
+        [head @ 128.., block, ..] => Some((Element::new(*head, *block, 0), 2)),
+        [head @ ..128, low, high, ..] => Some((Element::new(*head, *low, *high), 3)),
         _ => None,
     }
 }
@@ -31,7 +32,7 @@ impl Element {
         Element {
             access: head / 16 % 8,
             order: head % 16,
-            block: u16::from(low) + u16::from(high) * 256,
+            block: u16::from_le_bytes([low, high]),
         }
     }
 

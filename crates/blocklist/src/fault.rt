@@ -2,13 +2,8 @@
 ghost use Rattle.blocklist.specs.Faults.{at_element, of_command, fault_told, told};
 ghost use Rattle.std.specs.Prelude.{◌≡◌};
 
-/// The group of tests of a command's header.
-pub const HEADER_PLACE: u8 = 2;
-
-/// The group of tests of the elements of a block list.
-pub const ELEMENT_PLACE: u8 = 3;
-
 /// The two status bytes of an error reply.
+// Bytes of the wire, written where they are sent as the table of refusals has them; a name for each would hide that.
 #[derive(Clone, Copy)]
 pub struct Flags {
     pub sf1: u8,
@@ -17,6 +12,7 @@ pub struct Flags {
 
 /// A refusal that is answered: the group of tests that gave it, the list element counted from 1 (0: none), and
 /// the flags to send.
+// Place and element are numbers, which the caller gets as they are, 0 for none; and public functions take any byte for them.
 #[derive(Clone, Copy)]
 pub struct Fault {
     pub place: u8,

@@ -1,5 +1,6 @@
 -- The cells of a hopper's blocks.
 use Rattle.std.specs.Prelude.{ℕ, ◌+◌, ◌*◌, cond, Some, None, Option, ◌==◌, nat_lt}
+use Rattle.std.specs.Option.{option_map}
 
 -- the place of a block among its hopper's 22 cells, if it has one: the scratch blocks S_PAD0 to S_PAD13 and REG, then
 -- ID, D_ID, SER_C, CKV, CK, MC and WCNT
@@ -15,10 +16,14 @@ cell_of block =
     (cond (block == 0x90) (Some 21)
     None)))))))
 
-abbrev pub after : ℕ → Option ℕ → Option ℕ
-after start None = None
-after start (Some cell) = Some (start + cell)
+-- where a hopper's cells begin in the memory: each has 22
+abbrev pub first_cell : ℕ → ℕ
+first_cell hopper = 22 * hopper
 
--- its cell in the memory, where each hopper has 22
+-- a cell of a hopper in the memory
+abbrev pub hopper_cell : ℕ → ℕ → ℕ
+hopper_cell hopper cell = first_cell hopper + cell
+
+-- the cell of a hopper's block in the memory
 abbrev pub cell_number : ℕ → ℕ → Option ℕ
-cell_number hopper block = after (22 * hopper) (cell_of block)
+cell_number hopper block = option_map (hopper_cell hopper) (cell_of block)

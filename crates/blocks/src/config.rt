@@ -13,6 +13,7 @@ pub struct Config {
 
 impl Config {
     /// Bit k of the two bytes from a place on, the low byte first.
+    // The questions that are asked of it below keep a name each, since a place alone does not say what its bits mean.
     fn bit(&self, at: usize, k: u16) -> bool
         requires { (at < 15) × (k < 16) }
         ensures { result ≡ config_bit self.now.bytes at k }
@@ -97,7 +98,8 @@ impl Config {
         ensures { result ≡ merged Stage.Issued self.now.bytes sent.now }
     {
         let old = self.bytes;
-        let state = if old[12] == 0x01 { 0x01 } else { sent[12] };
+        let state = if self.signs_state() { 0x01 } else { sent[12] };
+        // Tried as changes of a copy, byte by byte: the proof did not close.
         [
             old[0] & sent[0],
             old[1] & sent[1],

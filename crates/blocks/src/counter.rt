@@ -14,14 +14,25 @@ const LARGEST: u32 = 0xFF_FFFF;
 /// Issued, writes that raise a counter above this are answered with a warning.
 const WARNING: u32 = 0x2710;
 
+/// The number of three bytes, the low byte first.
+#[tactic(auto, unfolding(crate::specs::Counters::three_byte_number))]
+pub fn three_byte_number(bytes: [u8; 3]) -> u32
+    ensures { result ≡ three_byte_number bytes }
+{
+    let [low, middle, high] = bytes;
+    u32::from_le_bytes([low, middle, high, 0])
+}
+
 /// The value stored in the block WCNT.
+#[tactic(auto, unfolding(crate::specs::Counters::three_byte_number))]
 pub fn counter_stored(block: &[u8; 16]) -> u32
     ensures { result ≡ three_byte_number block.now }
 {
-    u32::from(block[0]) + 256 * u32::from(block[1]) + 65536 * u32::from(block[2])
+    three_byte_number([block[0], block[1], block[2]])
 }
 
 /// The block WCNT of a counter; of a larger number the three low bytes count.
+#[tactic(auto, unfolding(crate::specs::Counters::counter_block))]
 pub fn counter_block(counter: u32) -> [u8; 16]
     ensures { result ≡ counter_block counter }
 {
@@ -49,6 +60,7 @@ pub fn ceiling(stage: Stage) -> u32
     }
 }
 
+// Stage and configuration are two parameters: the stage last fixed need not be the one that the configuration sets.
 impl Config {
     /// Whether an accepted write to a block raises the counter.
     pub fn counts(&self, block: u16) -> bool

@@ -7,7 +7,7 @@ ghost use Rattle.std.specs.Prelude.{◌≡◌};
 use crate::config::Config;
 use crate::stage::Stage;
 
-#[derive(Clone, Copy)]
+#[derive(Clone, Copy, PartialEq, Eq)]
 pub enum Permission {
     ReadOnly,
     ReadWrite,
@@ -20,10 +20,7 @@ impl Stage {
     pub fn is_issued(self) -> bool
         ensures { result ≡ is_issued self }
     {
-        match self {
-            Stage::Issuing => false,
-            Stage::Issued => true,
-        }
+        self == Stage::Issued
     }
 }
 
@@ -34,6 +31,7 @@ impl Config {
         ensures rules { PermissionRules block stage self.now.bytes result }
     {
         let issued = stage.is_issued();
+        // The project writes permission as one match over the ranges of block numbers, with guards.
         match block {
             0x00..=0x0E if self.opens_scratch(block) && self.signs_scratch(block) =>
                 Permission::ReadWriteMac,

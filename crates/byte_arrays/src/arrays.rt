@@ -5,8 +5,5 @@ ghost use Rattle.std.specs.Prelude.{◌≡◌, length, if◌then◌else◌, Some
 pub fn copied<const N: usize>(bytes: &[u8]) -> Option<[u8; N]>
     ensures { result ≡ (if nat_eq (length bytes.now) N then Some bytes.now else None) }
 {
-    match <[u8; N]>::try_from(bytes) {
-        Ok(own) => Some(own),
-        Err(_) => None,
-    }
+    <[u8; N]>::try_from(bytes).ok()
 }

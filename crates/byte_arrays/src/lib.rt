@@ -4,7 +4,9 @@
 mod arrays;
 mod blocks;
 mod parts;
+mod words;
 
 pub use arrays::copied;
 pub use blocks::{halves, join, same8, xor8};
 pub use parts::tail;
+pub use words::joined;

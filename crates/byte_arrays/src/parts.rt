@@ -5,8 +5,5 @@ ghost use Rattle.std.specs.Prelude.{◌≡◌, drop};
 pub fn tail(bytes: &[u8], from: usize) -> &[u8]
     ensures { result.now ≡ drop from bytes.now }
 {
-    match bytes.split_at_checked(from) {
-        Some((_, back)) => back,
-        None => &[],
-    }
+    bytes.get(from..).unwrap_or(&[])
 }

@@ -33,6 +33,13 @@ outcome o = record { reply = sent_bytes o.reply; place = o.place; element = o.el
 abbrev pub shown_by : Reaction → Shown
 shown_by r = record { reply = r.reply; place = r.place; element = r.element; write = r.write }
 
+-- the outcome with the volatile record afterwards, as the code gives them and as the reaction has them
+abbrev pub done : Outcome → Volatile → Shown × Volatile
+done o v = (outcome o, v)
+
+abbrev pub done_by : Reaction → Shown × Volatile
+done_by r = (shown_by r, r.kept)
+
 abbrev pub refused_outcome : ℕ → List ℕ → Told → Shown
 refused_outcome code identity t = record {
   reply = refusal_packet code identity t.flags;

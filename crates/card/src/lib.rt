@@ -1,6 +1,7 @@
 //! One hopper's card: a command that names it is decided and then carried out.
 #![tactic(auto)]
 
+mod card;
 mod outcome;
 mod reaction;
 mod read;

@@ -9,6 +9,7 @@ use hopper::BlockWrite;
 use reply::Packet;
 
 /// A reply or none; of a refusal its place and element, 0 if there is none; a write for the journal or none.
+// Place and element are numbers, 0 for none, as the caller gets them: public fields, for which an option would take fewer.
 #[derive(Clone, Copy)]
 pub struct Outcome {
     pub reply: Option<Packet>,
@@ -23,12 +24,7 @@ impl Outcome {
         ensures { outcome result ≡ refused_outcome code identity.now (told refusal) }
     {
         match refusal {
-            Refusal::Silence { place } => Outcome {
-                reply: None,
-                place,
-                element: 0,
-                write: None,
-            },
+            Refusal::Silence { place } => Outcome::silent(place),
             Refusal::Error(fault) => Outcome {
                 reply: Some(Packet::status(code, identity, fault.flags)),
                 place: fault.place,

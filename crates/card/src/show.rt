@@ -1,18 +1,19 @@
 //! What a read shows: blocks and tags.
-ghost use Rattle.card.specs.Signatures.{tagger};
+ghost use Rattle.blocklist.specs.Elements.{numbers_in};
+ghost use Rattle.card.specs.Reactions.{shown_text};
 ghost use Rattle.card.specs.Sources.{reads_from};
-ghost use Rattle.cipher.specs.Keys.{answered_as};
 ghost use Rattle.mac.specs.Chain.{tagged};
-ghost use Rattle.hopper.specs.ReadsAs.{reads_as};
 ghost use Rattle.reply.specs.Texts.{block_sent, tag_block, text_in, text_of};
-ghost use Rattle.std.specs.Prelude.{◌≡◌, ◌≤◌, length, replicate, Some};
+ghost use Rattle.std.specs.Prelude.{◌≡◌};
 
-use crate::signature::{chain_start, read_key};
+use crate::card::Card;
+use crate::signature::{Tagging, read_key};
+use blocklist::Blocks;
+use blocks::CELLS;
 use byte_arrays::join;
-use cipher::{Cipher, KeyError};
+use cipher::Cipher;
 use decision::View;
-use hopper::read_block;
-use mac::chain::tag;
+use hopper::{read_block, view};
 use memory::cell::Cell;
 use reply::Text;
 use volatile::{Session, Volatile};
@@ -20,7 +21,7 @@ use volatile::{Session, Volatile};
 /// What the blocks of a hopper are read from.
 #[derive(Clone, Copy)]
 pub(crate) struct Source<'a> {
-    pub cells: &'a [Cell; 22],
+    pub cells: &'a [Cell; CELLS],
     pub view: &'a View,
     pub session: &'a Session,
 }
@@ -34,65 +35,50 @@ fn tag_block(tag: &[u8; 8]) -> [u8; 16]
 
 /// A block as it is sent after a text.
 fn block_sent<C: Cipher>(
-    cipher: &C,
-    key: &C::Key,
-    start: [u8; 8],
+    tagging: &Tagging<C>,
     source: Source,
     text: &Text,
     block: u16,
     sheet: &mut [u64; 16],
 ) -> [u8; 16]
-    ensures value { result ≡ block_sent (reads_from source.entry) (tagged (C.enciphered (C.key_bytes key.now)) start) (text_in text.now) block }
-    ensures wiped { sheet.new ≡ replicate 16 0 }
+    ensures { result ≡ block_sent (reads_from source.entry) (tagged (C.enciphered (C.key_bytes tagging.now.key)) tagging.now.start) (text_in text.now) block }
 {
-    *sheet = [0; 16];
     match block {
-        0x81 => tag_block(&tag(cipher, key, start, text.sent(), sheet)),
-        0x91 => tag_block(&tag(cipher, key, start, text.led(), sheet)),
+        0x81 => tag_block(&tagging.tag(text.sent(), sheet)),
+        0x91 => tag_block(&tagging.tag(text.led(), sheet)),
         _ => read_block(source.cells, source.view, source.session, block),
     }
 }
 
 /// The text of a read of these blocks, all of them sent.
 fn text_shown<C: Cipher>(
-    cipher: &C,
-    key: &C::Key,
-    start: [u8; 8],
+    tagging: &Tagging<C>,
     source: Source,
-    numbers: &[u16],
+    blocks: &Blocks,
     sheet: &mut [u64; 16],
 ) -> Text
-    requires { length numbers.now ≤ 4 }
-    ensures value { text_in result ≡ text_of (reads_from source.entry) (tagged (C.enciphered (C.key_bytes key.now)) start) numbers.now }
-    ensures wiped { sheet.new ≡ replicate 16 0 }
+    ensures { text_in result ≡ text_of (reads_from source.entry) (tagged (C.enciphered (C.key_bytes tagging.now.key)) tagging.now.start) (numbers_in blocks.now) }
 {
-    *sheet = [0; 16];
+    let numbers = blocks.as_slice();
     let mut text = Text::led_by(numbers);
     for number in numbers {
-        let block = block_sent(cipher, key, start, source, &text, *number, sheet);
+        let block = block_sent(tagging, source, &text, *number, sheet);
         text.add(&block);
     }
     text
 }
 
-/// The text of a read of these blocks, under the keys of the session.
-pub(crate) fn shown<'a, C: Cipher>(
-    cipher: &C,
-    cells: &'a [Cell; 22],
-    view: &'a View,
-    volatile: &'a Volatile,
-    numbers: &[u16],
-    sheet: &mut [u64; 16],
-) -> Result<Text, KeyError>
-    requires { (C.key_length ≡ 16) × (length numbers.now ≤ 4) }
-    ensures answer { answered_as text_in result ≡ (0, Some (text_of (reads_as cells.now view.now volatile.now.session) (tagger C.enciphered volatile.now) numbers.now)) }
-    ensures wiped { sheet.new ≡ replicate 16 0 }
-{
-    let key = cipher.key(&read_key(&volatile.keys), sheet)?;
-    let source = Source {
-        cells,
-        view,
-        session: &volatile.session,
-    };
-    Ok(text_shown(cipher, &key, chain_start(volatile), source, numbers, sheet))
+impl<C: Cipher> Card<'_, C> {
+    /// The text of a read of these blocks, under the keys of the session.
+    pub(crate) fn text(&self, volatile: &Volatile, blocks: &Blocks, sheet: &mut [u64; 16]) -> Text
+        ensures { text_in result ≡ shown_text C.enciphered self.now.cells.now volatile.now (numbers_in blocks.now) }
+    {
+        let tagging = self.tagging(volatile, &read_key(&volatile.keys), sheet);
+        let source = Source {
+            cells: self.cells,
+            view: &view(self.cells, volatile),
+            session: &volatile.session,
+        };
+        text_shown(&tagging, source, blocks, sheet)
+    }
 }

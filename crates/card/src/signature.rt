@@ -1,24 +1,23 @@
 //! Tags under the keys of a session.
-ghost use Rattle.card.specs.Signatures.{chain_start, is_right, read_key, signature, signed_text, write_key};
-ghost use Rattle.cipher.specs.Keys.{answered, answered_as};
-ghost use Rattle.std.specs.Prelude.{◌≡◌, replicate, Some};
+ghost use Rattle.card.specs.Reactions.{verdict};
+ghost use Rattle.card.specs.Signatures.{chain_start, read_key, signed_text, write_key};
+ghost use Rattle.mac.specs.Chain.{tagged};
+ghost use Rattle.std.specs.Prelude.{◌≡◌};
 
+use crate::card::Card;
 use byte_arrays::{halves, join, same8};
-use cipher::{Cipher, KeyError};
-use mac::chain::tag_under;
+use cipher::Cipher;
+use hopper::view;
+use mac::chain::tag;
 use mac::reversal::turn_round;
 use mac::session::SessionKeys;
 use volatile::Volatile;
 
 /// Where the chains of a session start: the first half of RC, turned round.
-pub(crate) fn chain_start(volatile: &Volatile) -> [u8; 8]
+fn chain_start(volatile: &Volatile) -> [u8; 8]
     ensures { result ≡ chain_start volatile.now }
 {
-    let rc = match volatile.session.rc {
-        Some(rc) => rc,
-        None => [0; 16],
-    };
-    let (front, _) = halves(&rc);
+    let (front, _) = halves(&volatile.session.rc.unwrap_or([0; 16]));
     turn_round(front)
 }
 
@@ -41,27 +40,63 @@ fn signed_text(counter: u32, block: u16, sent: &[u8; 16]) -> [[u8; 8]; 3]
     ensures { result ≡ signed_text counter block sent.now }
 {
     let [low, middle, high, _] = counter.to_le_bytes();
-    let number = (block % 256) as u8;
+    let [number, _] = block.to_le_bytes();
     let (front, back) = halves(sent);
     [[low, middle, high, 0, number, 0, 0x91, 0], front, back]
 }
 
-/// Whether the tag of a write is right.
-pub(crate) fn is_right<C: Cipher>(
-    cipher: &C,
-    volatile: &Volatile,
-    counter: u32,
-    block: u16,
-    sent: &[u8; 16],
-    tag: &[u8; 8],
-    sheet: &mut [u64; 16],
-) -> Result<bool, KeyError>
-    requires { C.key_length ≡ 16 }
-    ensures answer { answered result ≡ (0, Some (is_right C.enciphered volatile.now counter block sent.now tag.now)) }
-    ensures wiped { sheet.new ≡ replicate 16 0 }
-{
-    let key = write_key(&volatile.keys);
-    let text = signed_text(counter, block, sent);
-    let right = tag_under(cipher, &key, chain_start(volatile), &text, sheet)?;
-    Ok(same8(tag, &right))
+/// What gives the tags of a session: a cipher under one of its keys, and where every chain starts.
+#[derive(Drop)]
+pub(crate) struct Tagging<'a, C: Cipher> {
+    pub cipher: &'a C,
+    pub key: C::Key,
+    pub start: [u8; 8],
+}
+
+impl<C: Cipher> Tagging<'_, C> {
+    /// The tag of a text.
+    pub(crate) fn tag(&self, text: &[[u8; 8]], sheet: &mut [u64; 16]) -> [u8; 8]
+        ensures { result ≡ tagged (C.enciphered (C.key_bytes self.now.key)) self.now.start text.now }
+    {
+        tag(self.cipher, &self.key, self.start, text, sheet)
+    }
+}
+
+impl<'a, C: Cipher> Card<'a, C> {
+    /// The tags of a session under a key: a cipher whose keys are of sixteen bytes never refuses it.
+    pub(crate) fn tagging(
+        &self,
+        volatile: &Volatile,
+        key: &[u8; 16],
+        sheet: &mut [u64; 16],
+    ) -> Tagging<'a, C>
+        ensures key { C.key_bytes result.key ≡ key.now }
+        ensures start { result.start ≡ chain_start volatile.now }
+    {
+        Tagging {
+            cipher: self.cipher,
+            key: self.cipher.key(key, sheet).unwrap(),
+            start: chain_start(volatile),
+        }
+    }
+
+    /// The verdict on the write of a block: its tag, the first half of the block MAC_A that it carries, is right.
+    #[tactic(auto, unfolding(crate::specs::Signatures::is_right))]
+    pub(crate) fn verdict(
+        &self,
+        volatile: &Volatile,
+        block: u16,
+        sent: &[u8; 16],
+        mac: &[u8; 16],
+        sheet: &mut [u64; 16],
+    ) -> bool
+        ensures { result ≡ verdict C.enciphered self.now.cells.now volatile.now block sent.now mac.now }
+    {
+        let counter = view(self.cells, volatile).counter;
+        let (tag, _) = halves(mac);
+        let tagging = self.tagging(volatile, &write_key(&volatile.keys), sheet);
+        let right = tagging.tag(&signed_text(counter, block, sent), sheet);
+        // `==` under the name that the definition of the verdict has: callers need not open it, which keeps their proofs short.
+        same8(&tag, &right)
+    }
 }

@@ -1,12 +1,10 @@
--- Worked cases of the rules.
-use Rattle.std.specs.Prelude.{◌≡◌, ℕ, Bool, true, false, List, [], ◌∷◌, replicate, Some, Ok, slice_index, slice_set}
-use Rattle.blocklist.specs.Elements.{element_of, named}
+-- Worked cases of one hopper's rules. Those of time slots and elements stand with the commands.
+use Rattle.std.specs.Prelude.{◌≡◌, ℕ, Bool, true, false, List, [], ◌∷◌, replicate, Some, slice_index, slice_set}
 use Rattle.blocks.specs.declared.stage.Stage.TheVariants.{Issuing, Issued}
 use Rattle.blocks.specs.Cells.{cell_number}
 use Rattle.blocks.specs.Configs.{merged}
 use Rattle.blocks.specs.Counters.{counter_after, counter_now}
 use Rattle.blocks.specs.Permissions.{may_write, permission}
-use Rattle.command.specs.Slots.{slot_of}
 use Rattle.decision.specs.declared.view.View.{View}
 use Rattle.hopper.specs.Stores.{accepted_flags}
 
@@ -38,10 +36,6 @@ pub data Case : Type 0 where
   issuing_counts : (counter after : ℕ) → Case
   -- when issued, a byte of the configuration and the one sent for it are merged
   merges : (byte old sent new : ℕ) → Case
-  -- a random byte and the slots of a polling command give a slot
-  draw_gives : (draw slots slot : ℕ) → Case
-  -- the bytes of an element name a block
-  element_names : (bytes : List ℕ) (block : ℕ) → Case
 
 abbrev pub holds : Case → Type 0
 holds (lies_in hopper block cell) = cell_number hopper block ≡ Some cell
@@ -51,8 +45,6 @@ holds (issued_answers counter sf1 sf2) = accepted_flags (issued_with counter) 0x
 holds (issuing_counts counter after) = counter_after 0x00 Issuing open_config counter ≡ after
 holds (merges byte old sent new) =
     slice_index (merged Issued (slice_set (replicate 16 0) byte old) (slice_set (replicate 16 0) byte sent)) byte ≡ new
-holds (draw_gives draw slots slot) = slot_of draw slots ≡ slot
-holds (element_names bytes block) = named 0 (element_of bytes) ≡ Ok block
 
 abbrev pub bench : List Case
 bench =
@@ -69,7 +61,4 @@ bench =
     ∷ issuing_counts 0xFFFFFF 0xFFFFFF
     ∷ merges 0 0xF0 0x3C 0x30
     ∷ merges 6 0x01 0x06 0x07
-    ∷ draw_gives 13 0x03 1
-    ∷ element_names (0x80 ∷ 0x05 ∷ []) 0x05
-    ∷ element_names (0x00 ∷ 0x05 ∷ 0x00 ∷ []) 0x05
     ∷ []

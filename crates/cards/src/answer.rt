@@ -1,5 +1,5 @@
 //! The answer to a question.
-use crate::question::{Question, question_of};
+use crate::question::{Algorithm, Question, question_of};
 use blocks::Stage;
 use card::{Outcome, poll, react};
 use cipher::Cipher;
@@ -19,7 +19,7 @@ fn add_reply(answer: &mut Answer, reply: Option<Packet>) -> Result<(), AllocErro
     match reply {
         Some(packet) => {
             let bytes = packet.as_slice();
-            answer.push((bytes.len() % 256) as u8)?;
+            answer.push(bytes.len() as u8)?;
             answer.extend_from_slice(bytes)?;
         }
         None => answer.push(0)?,
@@ -32,7 +32,11 @@ fn weight(bit: bool, weight: u8) -> u8 {
 }
 
 /// The setting byte of a state.
-fn setting_of(xtea: bool, volatile: &Volatile) -> u8 {
+fn setting_of(algorithm: Algorithm, volatile: &Volatile) -> u8 {
+    let cipher = match algorithm {
+        Algorithm::TwoKeyDes => 0,
+        Algorithm::Xtea => 1,
+    };
     let issued = match volatile.stage {
         Stage::Issuing => 0,
         Stage::Issued => 2,
@@ -41,7 +45,7 @@ fn setting_of(xtea: bool, volatile: &Volatile) -> u8 {
         Radio::Deaf { .. } => 64,
         Radio::Open | Radio::PollShut => 0,
     };
-    weight(xtea, 1)
+    cipher
         | issued
         | weight(volatile.sound, 4)
         | weight(volatile.session.is_seeded(), 8)
@@ -57,27 +61,29 @@ fn add_session(answer: &mut Answer, rc: [u8; 16], keys: SessionKeys) -> Result<(
     Ok(())
 }
 
-fn add_state(answer: &mut Answer, xtea: bool, volatile: &Volatile) -> Result<(), AllocError> {
-    answer.push(setting_of(xtea, volatile))?;
+fn add_state(answer: &mut Answer, question: &Question) -> Result<(), AllocError> {
+    let volatile = &question.volatile;
+    answer.push(setting_of(question.algorithm, volatile))?;
     match volatile.session.rc {
         Some(rc) => add_session(answer, rc, volatile.keys),
         None => Ok(()),
     }
 }
 
+/// The outcome, with the state that the question is left in.
 fn add_outcome(
     answer: &mut Answer,
-    xtea: bool,
     outcome: Outcome,
-    volatile: &Volatile,
+    question: &Question,
 ) -> Result<(), AllocError> {
     answer.extend_from_slice(&[outcome.place, outcome.element])?;
     add_reply(answer, outcome.reply)?;
-    add_state(answer, xtea, volatile)?;
+    add_state(answer, question)?;
     match outcome.write {
         Some(write) => {
+            let [block, _] = write.block.to_le_bytes();
             let [low, middle, high, _] = write.counter.to_le_bytes();
-            answer.extend_from_slice(&[1, (write.block % 256) as u8])?;
+            answer.extend_from_slice(&[1, block])?;
             answer.extend_from_slice(&write.bytes)?;
             answer.extend_from_slice(&[low, middle, high])?;
         }
@@ -130,21 +136,18 @@ fn answer_with<C: Cipher>(
     let mut answer = Vec::new(heap);
     seed(cipher, question, &mut sheet);
     if let Some(outcome) = outcome_of(cipher, question, &mut sheet) {
-        add_outcome(&mut answer, question.xtea, outcome, &question.volatile)?;
+        add_outcome(&mut answer, outcome, question)?;
     }
     Ok(answer)
 }
 
 /// The answer to a question; nothing to a line that is none.
 pub fn answer(heap: Global, bytes: &[u8]) -> Result<Answer, AllocError> {
-    match question_of(bytes) {
-        Some(mut question) => {
-            if question.xtea {
-                answer_with(heap, &Xtea, &mut question)
-            } else {
-                answer_with(heap, &TwoKeyDes, &mut question)
-            }
-        }
-        None => Ok(Vec::new(heap)),
+    let Some(mut question) = question_of(bytes) else {
+        return Ok(Vec::new(heap));
+    };
+    match question.algorithm {
+        Algorithm::TwoKeyDes => answer_with(heap, &TwoKeyDes, &mut question),
+        Algorithm::Xtea => answer_with(heap, &Xtea, &mut question),
     }
 }

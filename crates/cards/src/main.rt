@@ -7,26 +7,18 @@
 #![tactic(auto)]
 
 mod answer;
-mod digits;
 mod question;
 
 use crate::answer::answer;
-use crate::digits::bytes_of;
+use hex_digits::{Hex, bytes_of};
 use std::io;
 use std::io::{BufRead, BufReader};
-
-fn print_line(rt: &HostRuntime, bytes: &[u8]) -> io::Result<()> {
-    for byte in bytes {
-        print!(rt; "{byte:02X}")?;
-    }
-    println!(rt; "")
-}
 
 fn main(rt: HostRuntime) -> io::Result<()> {
     let heap = rt.alloc();
     for line in BufReader::new(heap, rt.stdin())?.split(heap, b'\n') {
-        let question = bytes_of(heap, &line?)?;
-        print_line(&rt, &answer(heap, &question)?)?;
+        let question: Vec<u8> = bytes_of(&line?).collect(heap)?;
+        println!(rt; "{}", Hex(&answer(heap, &question)?))?;
     }
     Ok(())
 }

@@ -1,17 +1,25 @@
 //! The state of a hopper and the packet that a question is about.
-use blocks::Stage;
+use blocks::{CARD_KEY_CELL, CELLS, CONFIG_CELL, COUNTER_CELL, Stage};
 use byte_arrays::tail;
 use mac::session::SessionKeys;
 use memory::cell::Cell;
+use std::array;
 use volatile::{Radio, Session, Volatile};
 
-/// Where the parts of a question lie.
-const PACKET: usize = 53;
+/// Where the fill byte of a question lies, the last before its packet.
+const FILL: usize = 52;
+
+/// The cipher of the card's keys.
+#[derive(Clone, Copy)]
+pub enum Algorithm {
+    TwoKeyDes,
+    Xtea,
+}
 
 #[derive(Drop)]
 pub struct Question<'a> {
-    pub xtea: bool,
-    pub cells: [Cell; 22],
+    pub algorithm: Algorithm,
+    pub cells: [Cell; CELLS],
     /// all but the session keys
     pub volatile: Volatile,
     pub card_key: [u8; 16],
@@ -34,26 +42,16 @@ fn block_at(bytes: &[u8], at: usize) -> [u8; 16] {
 
 /// A cell that the question does not give: a run of bytes from the fill byte on.
 fn filled(fill: u8, cell: u8) -> Cell {
-    let mut block = [0; 16];
-    let mut next = fill.wrapping_add(cell.wrapping_mul(16));
-    for byte in block.iter_mut() {
-        *byte = next;
-        next = next.wrapping_add(1);
-    }
-    Cell::Good(block)
+    let start = fill.wrapping_add(cell.wrapping_mul(16));
+    Cell::Good(array::from_fn(|i| start.wrapping_add(i as u8)))
 }
 
-fn cells_of(bytes: &[u8], fill: u8) -> [Cell; 22] {
-    let mut cells = [Cell::Torn; 22];
-    let mut number = 0_u8;
-    for cell in cells.iter_mut() {
-        *cell = filled(fill, number);
-        number = number.wrapping_add(1);
-    }
+fn cells_of(bytes: &[u8], fill: u8) -> [Cell; CELLS] {
+    let mut cells: [Cell; CELLS] = array::from_fn(|i| filled(fill, i as u8));
     let [low, middle, high, ..] = block_at(bytes, 17);
-    cells[19] = Cell::Good(block_at(bytes, 20));
-    cells[20] = Cell::Good(block_at(bytes, 1));
-    cells[21] = Cell::Good([low, middle, high, 0, 0, 0, 0, 0, 0, 0, 0, 0, 0, 0, 0, 0]);
+    cells[CARD_KEY_CELL] = Cell::Good(block_at(bytes, 20));
+    cells[CONFIG_CELL] = Cell::Good(block_at(bytes, 1));
+    cells[COUNTER_CELL] = Cell::Good([low, middle, high, 0, 0, 0, 0, 0, 0, 0, 0, 0, 0, 0, 0, 0]);
     cells
 }
 
@@ -77,7 +75,7 @@ fn volatile_of(setting: u8, rc: [u8; 16]) -> Volatile {
         },
         sound: is_set(setting, 4),
         session: Session {
-            rc: if is_set(setting, 8) { Some(rc) } else { None },
+            rc: is_set(setting, 8).then_some(rc),
             authenticated: is_set(setting, 16),
             radio: radio_of(setting),
         },
@@ -93,11 +91,15 @@ pub fn question_of(bytes: &[u8]) -> Option<Question<'_>> {
     let [setting, ..] = bytes else {
         return None;
     };
-    let [fill, packet @ ..] = tail(bytes, PACKET - 1) else {
+    let [fill, packet @ ..] = tail(bytes, FILL) else {
         return None;
     };
     Some(Question {
-        xtea: is_set(*setting, 1),
+        algorithm: if is_set(*setting, 1) {
+            Algorithm::Xtea
+        } else {
+            Algorithm::TwoKeyDes
+        },
         cells: cells_of(bytes, *fill),
         volatile: volatile_of(*setting, block_at(bytes, 36)),
         card_key: block_at(bytes, 20),

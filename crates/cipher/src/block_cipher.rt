@@ -6,13 +6,16 @@ use crate::key_error::KeyError;
 
 /// A block cipher on eight bytes, with a kind of key of its own. Code above it is written and proved
 /// once, against the meaning that the ghost members give.
+// The sheet is a parameter with a clause of its own, here and above: a type whose invariant says that it is zero would ask
+// callers for a zero sheet, and they may lend any sixteen numbers.
 pub trait Cipher {
     type Key: Drop;
 
+    /// The length of a key in bytes.
     const KEY_LEN: usize;
 
-    /// the length of a key in bytes: KEY_LEN, which a clause cannot name
-    ghost key_length: { ℕ };
+    /// the same number, for clauses
+    ghost KEY_LEN: { ℕ };
 
     /// the bytes that a key was made from
     ghost key_bytes: { Self.Key → List ℕ };
@@ -20,13 +23,9 @@ pub trait Cipher {
     /// what key bytes make of a block: a function of the two alone
     ghost enciphered: { List ℕ → List ℕ → List ℕ };
 
-    /// The length of a key in bytes.
-    fn key_size(&self) -> usize
-        ensures { result ≡ key_length };
-
     /// A key from its bytes, or a refusal where there are too few or too many.
     fn key(&self, bytes: &[u8], sheet: &mut [u64; 16]) -> Result<Self::Key, KeyError>
-        ensures answer { answered_as key_bytes result ≡ key_made key_length bytes.now }
+        ensures answer { answered_as key_bytes result ≡ key_made KEY_LEN bytes.now }
         ensures wiped { sheet.new ≡ replicate 16 0 };
 
     /// The block under the key.

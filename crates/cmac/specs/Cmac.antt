@@ -1,5 +1,6 @@
 -- CMAC by NIST SP 800-38B for blocks of eight bytes, and diversified keys; E is a block cipher under a fixed key.
-use Rattle.std.specs.Prelude.{ℕ, zero, suc, ◌-◌, ◌*◌, ◌/◌, ◌%◌, ◌^◌, cond, List, ◌∷◌, ◌++◌, length, take, drop, replicate, ◌==◌, bit_xor, nat_lt, slice_index, slice_set}
+use Rattle.std.specs.Prelude.{ℕ, ◌-◌, ◌*◌, ◌/◌, ◌%◌, ◌^◌, cond, List, ◌∷◌, ◌++◌, fold, length, drop, replicate, ◌==◌, bit_xor, nat_lt, slice_index, slice_set}
+use Rattle.std.specs.Simd.{first_chunks}
 use Rattle.byte_arrays.specs.Blocks.{xored}
 use Rattle.byte_arrays.specs.Words.{word64, bytes64}
 
@@ -17,10 +18,17 @@ subkey_2 E = doubled (subkey_1 E)
 abbrev pub blocks_before_last : List ℕ → ℕ
 blocks_before_last m = (length m - 1) / 8
 
+-- a chain at c takes a block b to this
+abbrev pub chain_step : (List ℕ → List ℕ) → List ℕ → List ℕ → List ℕ
+chain_step E c b = E (xored c b)
+
+-- cipher block chaining from c over blocks
+abbrev pub chained : (List ℕ → List ℕ) → List ℕ → List (List ℕ) → List ℕ
+chained E c blocks = fold (chain_step E) c blocks
+
 -- cipher block chaining from c over the first n blocks of a message
-unfoldable pub cbc : (List ℕ → List ℕ) → ℕ → List ℕ → List ℕ → List ℕ
-cbc E zero c m = c
-cbc E (suc n) c m = cbc E n (E (xored c (take 8 m))) (drop 8 m)
+abbrev pub cbc : (List ℕ → List ℕ) → ℕ → List ℕ → List ℕ → List ℕ
+cbc E n c m = chained E c (first_chunks 8 n m)
 
 -- a part block is filled up by one bit 1 and then bits 0
 abbrev pub padded : List ℕ → List ℕ

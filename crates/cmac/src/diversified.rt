@@ -22,7 +22,7 @@ pub fn diversified_key<C: Cipher>(
     id: &[u8; 16],
     sheet: &mut [u64; 16],
 ) -> Result<[u8; 16], KeyError>
-    ensures answer { answered result ≡ under_key C.key_length master.now (diversified_of (C.enciphered master.now) id.now) }
+    ensures answer { answered result ≡ under_key C.KEY_LEN master.now (diversified_of (C.enciphered master.now) id.now) }
     ensures wiped { sheet.new ≡ replicate 16 0 }
 {
     let key = cipher.key(master, sheet)?;

@@ -1,7 +1,6 @@
 //! CMAC by NIST SP 800-38B, for every cipher on blocks of eight bytes.
-ghost use Rattle.std.specs.Prelude.{◌≡◌, ◌+◌, ◌*◌, ◌<◌, ◌≤◌, length, take, drop, replicate};
-ghost use Rattle.byte_arrays.specs.Blocks.{xored};
-ghost use Rattle.cmac.specs.Cmac.{doubled, cbc as cbc_of, padded, masked, cmac as cmac_of};
+ghost use Rattle.std.specs.Prelude.{◌≡◌, ◌<◌, ◌≤◌, length, replicate};
+ghost use Rattle.cmac.specs.Cmac.{chained, doubled, padded, masked, cmac as cmac_of};
 
 use byte_arrays::{copied, xor8};
 use cipher::Cipher;
@@ -25,7 +24,7 @@ fn pad(part: &[u8]) -> [u8; 8]
     ensures { result ≡ padded part.now }
 {
     let mut block = [0; 8];
-    block[0..part.len()].copy_from_slice(part);
+    block[..part.len()].copy_from_slice(part);
     block[part.len()] = 0x80;
     block
 }
@@ -41,50 +40,17 @@ fn mask(k1: &[u8; 8], k2: &[u8; 8], part: &[u8]) -> [u8; 8]
     }
 }
 
-/// The eight bytes from `at` on.
-fn block_at(bytes: &[u8], at: usize) -> [u8; 8]
-    requires { at + 8 ≤ length bytes.now }
-    ensures { result ≡ take 8 (drop at bytes.now) }
-{
-    let mut block = [0; 8];
-    block.copy_from_slice(&bytes[at..at + 8]);
-    block
-}
-
-/// One block of a message, from `at` on, chained onto `c`.
-fn step<C: Cipher>(
-    cipher: &C,
-    key: &C::Key,
-    c: [u8; 8],
-    message: &[u8],
-    at: usize,
-    sheet: &mut [u64; 16],
-) -> [u8; 8]
-    requires { at + 8 ≤ length message.now }
-    ensures value { result ≡ C.enciphered (C.key_bytes key.now) (xored c (take 8 (drop at message.now))) }
-    ensures wiped { sheet.new ≡ replicate 16 0 }
-{
-    cipher.encrypt(key, xor8(c, &block_at(message, at)), sheet)
-}
-
-/// Cipher block chaining over the first blocks of a message.
-fn cbc<C: Cipher>(
-    cipher: &C,
-    key: &C::Key,
-    message: &[u8],
-    blocks: usize,
-    sheet: &mut [u64; 16],
-) -> [u8; 8]
-    requires { 8 * blocks ≤ length message.now }
-    ensures value { result ≡ cbc_of (C.enciphered (C.key_bytes key.now)) blocks (replicate 8 0) message.now }
+/// Cipher block chaining over blocks, from a block of zeros.
+// Cipher and key are two parameters here too: they are handed on once.
+fn cbc<C: Cipher>(cipher: &C, key: &C::Key, blocks: &[[u8; 8]], sheet: &mut [u64; 16]) -> [u8; 8]
+    ensures value { result ≡ chained (C.enciphered (C.key_bytes key.now)) (replicate 8 0) blocks.now }
     ensures wiped { sheet.new ≡ replicate 16 0 }
 {
     // a message of one block meets no cipher here that would clear the sheet
     *sheet = [0; 16];
     let mut c = [0; 8];
-    for i in 0..blocks {
-        let next = step(cipher, key, c, message, 8 * i, sheet);
-        c = next;
+    for block in blocks {
+        c = cipher.encrypt(key, xor8(c, block), sheet);
     }
     c
 }
@@ -97,7 +63,8 @@ pub fn cmac<C: Cipher>(cipher: &C, key: &C::Key, message: &[u8], sheet: &mut [u6
     let k1 = double(cipher.encrypt(key, [0; 8], sheet));
     let k2 = double(k1);
     let before = message.len().saturating_sub(1) / 8;
-    let c = cbc(cipher, key, message, before, sheet);
+    let (blocks, _) = message.as_chunks::<8>();
+    let c = cbc(cipher, key, &blocks[..before], sheet);
     let last = mask(&k1, &k2, &message[8 * before..]);
     cipher.encrypt(key, xor8(c, &last), sheet)
 }

@@ -1,15 +1,9 @@
 -- The tests of the header of a read or a write, in their order.
-use Rattle.std.specs.Prelude.{ℕ, ◌+◌, ◌*◌, Bool, cond, not, ◌&&◌, List, [], ◌∷◌, ◌++◌, length, take, drop, Some, None, Ok, Err, Option, Result, ◌==◌, nat_le}
-use Rattle.blocklist.specs.declared.fault.Fault.{Fault}
+use Rattle.std.specs.Prelude.{ℕ, ◌+◌, ◌*◌, Bool, cond, not, ◌&&◌, List, [], ◌∷◌, ◌++◌, length, take, drop, Some, None, Option, Result, ◌==◌, nat_le}
 use Rattle.command.specs.declared.header.WriteBody.{WriteBody}
 use Rattle.command.specs.Commands.{Carried}
-use Rattle.blocklist.specs.Faults.{Told, fault_told, of_command, silent}
+use Rattle.blocklist.specs.Faults.{Told, fault_told, judged, of_command, silent}
 use Rattle.blocklist.specs.Lists.{list_read, read_exact, write_exact}
-
--- tests in order: the refusal of the first that holds, or the answer where none does
-abbrev pub judged : {A : Type 0} → List (Bool × Told) → A → Result A Told
-judged [] answer = Ok answer
-judged (t ∷ ts) answer = cond t.0 (Err t.1) (judged ts answer)
 
 abbrev pub one_service : Carried → Bool
 one_service q = q.services == 1
@@ -23,11 +17,6 @@ count_tests most q =
     (not (one_service q), fault_told (of_command 2 0xFF 0xA1))
     ∷ (not (blocks_up_to most q), fault_told (of_command 2 0xFF 0xA2))
     ∷ []
-
--- their answer, by its case
-abbrev pub counts_told : Result (Unit {0}) Fault → Result (Unit {0}) Told
-counts_told (Ok u) = Ok u
-counts_told (Err fault) = Err (fault_told fault)
 
 -- after these that of the length: where it is not exact, nothing is sent
 abbrev pub header_tests : ℕ → Bool → Carried → List (Bool × Told)

@@ -1,10 +1,11 @@
 //! The commands, each taken from a packet.
-ghost use Rattle.std.specs.Prelude.{◌≡◌, ◌<◌, ◌≤◌, length};
-ghost use Rattle.command.specs.Commands.{asked, asked_in, carried, carried_in, identity_in, parsed, poll_fits, slots_fit, starts_as, system_fits};
+ghost use Rattle.std.specs.Prelude.{◌≡◌, ◌≤◌, length, Some, None, if◌then◌else◌, nat_le};
+ghost use Rattle.std.specs.Option.{option_map};
+ghost use Rattle.command.specs.Commands.{asked, asked_in, carried, carried_in, deafening, identity_in, parsed, poll_fits, slots_fit, system_fits};
 ghost use Rattle.frame.specs.Frames.{unframed};
 
 use crate::request::Request;
-use byte_arrays::tail;
+use byte_arrays::copied;
 use frame::take_packet;
 
 /// A command. What fits none of the others is unknown.
@@ -31,47 +32,56 @@ fn is_slot_count(slots: u8) -> bool
     matches!(slots, 0x00 | 0x01 | 0x03 | 0x07 | 0x0F)
 }
 
-/// Whether a packet is a polling command: five bytes with a system code and slots that fit.
-fn is_polling(packet: &[u8]) -> bool
-    ensures { result ≡ poll_fits packet.now }
+/// A polling command: five bytes with a system code and slots that fit.
+fn polling_of(packet: &[u8]) -> Option<Command<'_>>
+    ensures { option_map asked result ≡ (if poll_fits packet.now then Some (parsed packet.now) else None) }
 {
-    match packet {
-        [0x00, high, low, _, slots] => is_served(*high, *low) && is_slot_count(*slots),
-        _ => false,
+    let [0x00, high, low, request, slots] = packet else {
+        return None;
+    };
+    if !is_served(*high, *low) || !is_slot_count(*slots) {
+        return None;
     }
+    Some(Command::Polling {
+        request: *request,
+        slots: *slots,
+    })
 }
 
-/// Whether a packet has a command code and at least so many bytes.
-fn starts(packet: &[u8], code: u8, least: usize) -> bool
-    requires { 0 < least }
-    ensures { result ≡ starts_as code least packet.now }
+/// The identity after the command code, if the packet has it.
+fn identity_of(packet: &[u8]) -> Option<[u8; 8]>
+    ensures { result ≡ (if nat_le 9 (length packet.now) then Some (identity_in packet.now) else None) }
 {
-    packet.len() >= least && packet[0] == code
+    copied(packet.get(1..9)?)
 }
 
-/// The identity after the command code.
-fn identity_of(packet: &[u8]) -> [u8; 8]
-    requires { 9 ≤ length packet.now }
-    ensures { result ≡ identity_in packet.now }
+/// A command that deafens the card: the identity, and whatever follows it.
+fn deafening_of(packet: &[u8]) -> Option<Command<'_>>
+    ensures { option_map asked result ≡ (if nat_le 9 (length packet.now) then Some (deafening (identity_in packet.now)) else None) }
 {
-    let mut identity = [0; 8];
-    identity.copy_from_slice(&packet[1..9]);
-    identity
+    let identity = identity_of(packet)?;
+    Some(Command::Deafen { identity })
 }
 
-/// The parts of a read or a write.
-fn request_of(packet: &[u8]) -> Request<'_>
-    requires { 13 ≤ length packet.now }
-    ensures { carried result ≡ carried_in packet.now }
+/// The parts of a read or a write, if the packet has at least so many bytes.
+fn request_of(packet: &[u8], least: usize) -> Option<Request<'_>>
+    requires { 13 ≤ least }
+    ensures { option_map carried result ≡ (if nat_le least (length packet.now) then Some (carried_in packet.now) else None) }
 {
-    let identity = identity_of(packet);
-    Request {
+    if packet.len() < least {
+        return None;
+    }
+    let identity = identity_of(packet)?;
+    let [services, low, high, blocks, rest @ ..] = packet.get(9..)? else {
+        return None;
+    };
+    Some(Request {
         identity,
-        services: packet[9],
-        service: u16::from(packet[10]) + u16::from(packet[11]) * 256,
-        blocks: packet[12],
-        rest: tail(packet, 13),
-    }
+        services: *services,
+        service: u16::from_le_bytes([*low, *high]),
+        blocks: *blocks,
+        rest,
+    })
 }
 
 impl<'a> Command<'a> {
@@ -79,31 +89,19 @@ impl<'a> Command<'a> {
     pub fn heard(bytes: &'a [u8]) -> Command<'a>
         ensures { asked result ≡ asked_in (unframed bytes.now) }
     {
-        match take_packet(bytes) {
-            Some(packet) => Command::parse(packet),
-            None => Command::Unknown,
-        }
+        take_packet(bytes).map_or(Command::Unknown, Command::parse)
     }
 
     /// The command that a packet asks for.
     pub fn parse(packet: &'a [u8]) -> Command<'a>
         ensures { asked result ≡ parsed packet.now }
     {
-        if is_polling(packet) {
-            Command::Polling {
-                request: packet[3],
-                slots: packet[4],
-            }
-        } else if starts(packet, 0x06, 15) {
-            Command::Read(request_of(packet))
-        } else if starts(packet, 0x08, 31) {
-            Command::Write(request_of(packet))
-        } else if starts(packet, 0x10, 9) {
-            Command::Deafen {
-                identity: identity_of(packet),
-            }
-        } else {
-            Command::Unknown
+        match packet {
+            [0x00, ..] => polling_of(packet).unwrap_or(Command::Unknown),
+            [0x06, ..] => request_of(packet, 15).map_or(Command::Unknown, Command::Read),
+            [0x08, ..] => request_of(packet, 31).map_or(Command::Unknown, Command::Write),
+            [0x10, ..] => deafening_of(packet).unwrap_or(Command::Unknown),
+            _ => Command::Unknown,
         }
     }
 }

@@ -1,13 +1,13 @@
 //! The tests of the header of a read or a write, before its block list is looked into.
 ghost use Rattle.std.specs.Result.{result_map_both};
 ghost use Rattle.command.specs.Commands.{carried};
-ghost use Rattle.blocklist.specs.Faults.{told};
-ghost use Rattle.command.specs.Headers.{body, count_tests, counts_told, judged, parted, payload_block, read_header, write_header};
+ghost use Rattle.blocklist.specs.Faults.{fault_told, judged, told};
+ghost use Rattle.command.specs.Headers.{body, count_tests, header_tests, parted, payload_block, read_header, write_header};
 ghost use Rattle.std.specs.Prelude.{◌≡◌};
 
 use crate::request::Request;
 use blocklist::{Fault, HEADER_PLACE, Refusal, read_is_exact, read_list, write_is_exact};
-use byte_arrays::tail;
+use byte_arrays::copied;
 
 /// The block list of a write and the data after it.
 #[derive(Clone, Copy)]
@@ -22,25 +22,33 @@ impl WriteBody<'_> {
         ensures { result ≡ payload_block index (body self.entry).1 }
     {
         let from = 16 * usize::from(index);
-        if self.payload.len() < from + 16 {
-            return None;
-        }
-        let mut block = [0; 16];
-        block.copy_from_slice(&self.payload[from..from + 16]);
-        Some(block)
+        copied(self.payload.get(from..from + 16)?)
     }
 }
 
 impl<'a> Request<'a> {
     /// One service, and at least one block but no more than `most`.
     fn check_counts(self, most: u8) -> Result<(), Fault>
-        ensures { counts_told result ≡ judged (count_tests most (carried self.entry)) tt }
+        ensures { result_map_both (λ u. u) fault_told result ≡ judged (count_tests most (carried self.entry)) tt }
     {
         if self.services != 1 {
             return Err(Fault::of_command(HEADER_PLACE, 0xFF, 0xA1));
         }
-        if self.blocks == 0 || self.blocks > most {
+        if !(1..=most).contains(&self.blocks) {
             return Err(Fault::of_command(HEADER_PLACE, 0xFF, 0xA2));
+        }
+        Ok(())
+    }
+
+    /// These tests, and after them that of the length.
+    fn check_header(self, most: u8, is_exact: bool) -> Result<(), Refusal>
+        ensures { result_map_both (λ u. u) told result ≡ judged (header_tests most is_exact (carried self.entry)) tt }
+    {
+        self.check_counts(most)?;
+        if !is_exact {
+            return Err(Refusal::Silence {
+                place: HEADER_PLACE,
+            });
         }
         Ok(())
     }
@@ -49,12 +57,7 @@ impl<'a> Request<'a> {
     pub fn read_header(self) -> Result<&'a [u8], Refusal>
         ensures { result_map_both (λ x. x.now) told result ≡ read_header (carried self.entry) }
     {
-        self.check_counts(4)?;
-        if !read_is_exact(self.rest, self.blocks) {
-            return Err(Refusal::Silence {
-                place: HEADER_PLACE,
-            });
-        }
+        self.check_header(4, read_is_exact(self.rest, self.blocks))?;
         Ok(self.rest)
     }
 
@@ -63,22 +66,15 @@ impl<'a> Request<'a> {
         ensures { body result ≡ parted (carried self.entry) }
     {
         let (_, taken) = read_list(self.rest, self.blocks);
-        WriteBody {
-            list: &self.rest[0..taken],
-            payload: tail(self.rest, taken),
-        }
+        let (list, payload) = self.rest.split_at(taken);
+        WriteBody { list, payload }
     }
 
     /// The block list and the data of a write that passes the tests of its header.
     pub fn write_header(self) -> Result<WriteBody<'a>, Refusal>
         ensures { result_map_both body told result ≡ write_header (carried self.entry) }
     {
-        self.check_counts(2)?;
-        if !write_is_exact(self.rest, self.blocks) {
-            return Err(Refusal::Silence {
-                place: HEADER_PLACE,
-            });
-        }
+        self.check_header(2, write_is_exact(self.rest, self.blocks))?;
         Ok(self.write_body())
     }
 }

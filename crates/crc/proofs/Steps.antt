@@ -1,18 +1,14 @@
 -- The CRC, step by step: over eight bits, over one byte more of a slice, over two runs, and its bound.
-use Rattle.std.proofs.Common.{◌≡◌, ℕ, ◌+◌, ◌*◌, ◌%◌, ◌^◌, ◌<◌, ◌≤◌, Bool, true, false, cond, ltb, List, [], ◌∷◌, ◌++◌, length, get_or, drop, refl, arith, lit<}
-use lib.Bits.{bit_xor, xor_lt}
-use Rattle.std.proofs.lemmas.List.{at_drop_more, at_drop_all}
+use Rattle.std.proofs.Common.{◌≡◌, ℕ, ◌*◌, ◌%◌, ◌^◌, ◌<◌, Bool, true, false, cond, ltb, List, [], ◌∷◌, ◌++◌, refl, arith, lit<, bit_xor}
+use Rattle.std.proofs.lemmas.Nat.{xor_lt}
+use Rattle.std.specs.List.{fold}
 use Rattle.crc.specs.Crc.{crc_bit, crc_bits, crc_byte, crc_after, crc_of}
 
--- one byte more of a slice, and its end
-pub after_more : (start : ℕ) (bytes : List ℕ) (i : ℕ) → i < length bytes
-    → crc_after start (drop i bytes) ≡ crc_after (crc_byte start (get_or bytes i 0)) (drop (i + 1) bytes)
+-- the CRC of bytes is the fold of its step over them
+pub after_is_fold : (start : ℕ) (bytes : List ℕ) → crc_after start bytes ≡ fold crc_byte start bytes
 unfolding crc_after
-after_more start bytes i h = at_drop_more (crc_after start) bytes i 0 h
-
-pub after_all : (start : ℕ) (bytes : List ℕ) (i : ℕ) → length bytes ≤ i → crc_after start (drop i bytes) ≡ start
-unfolding crc_after
-after_all start bytes i h = at_drop_all (crc_after start) bytes i h
+after_is_fold start [] = refl
+after_is_fold start (byte ∷ bytes) = after_is_fold (crc_byte start byte) bytes
 
 -- the CRC of two runs is that of the first, carried on over the second
 pub after_append : (start : ℕ) (a b : List ℕ) → crc_after start (a ++ b) ≡ crc_after (crc_after start a) b

@@ -24,6 +24,7 @@ fn crc_byte(register: u16, byte: u8) -> u16
     ensures { result ≡ crc_byte register byte }
 {
     let mut divided = register ^ (u16::from(byte) << 8);
+    // Eight repetitions, which read no index: a fold over the range would be no plainer.
     for _bit in 0..8u8 {
         divided = crc_bit(divided);
     }
@@ -34,11 +35,9 @@ fn crc_byte(register: u16, byte: u8) -> u16
 pub fn crc_after(start: u16, bytes: &[u8]) -> u16
     ensures { result ≡ crc_after start bytes.now }
 {
-    let mut register = start;
-    for byte in bytes {
-        register = crc_byte(register, *byte);
-    }
-    register
+    bytes
+        .iter()
+        .fold(start, |register, byte| crc_byte(register, *byte))
 }
 
 /// The CRC of bytes.

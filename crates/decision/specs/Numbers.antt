@@ -1,5 +1,6 @@
 -- Block numbers in lists.
-use Rattle.std.specs.Prelude.{ℕ, Bool, false, cond, ◌&&◌, ◌||◌, List, [], ◌∷◌, length, ◌==◌, nat_le, nat_lt, slice_index}
+use Rattle.std.specs.Prelude.{ℕ, Bool, cond, ◌&&◌, ◌||◌, List, length, ◌==◌, nat_le, nat_lt, slice_index}
+use Rattle.std.specs.List.{list_any}
 
 -- a block of that number exists
 abbrev pub exists : ℕ → Bool
@@ -14,9 +15,8 @@ abbrev pub other_tag : ℕ → ℕ
 other_tag b = cond (b == 0x81) 0x91 0x81
 
 -- a number stands in a list
-unfoldable pub names : ℕ → List ℕ → Bool
-names b [] = false
-names b (n ∷ ns) = n == b || names b ns
+abbrev pub names : ℕ → List ℕ → Bool
+names b ns = list_any (λ n. n == b) ns
 
 -- the list is CRC_CHECK alone
 abbrev pub check_alone : List ℕ → Bool

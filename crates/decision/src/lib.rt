@@ -3,6 +3,7 @@
 
 mod numbers;
 mod read;
+mod service;
 mod view;
 mod write;
 

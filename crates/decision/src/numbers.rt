@@ -1,5 +1,5 @@
 //! Block numbers in lists.
-ghost use Rattle.decision.specs.Numbers.{check_alone, exists, is_tag, names, other_tag, written_alone, written_signed};
+ghost use Rattle.decision.specs.Numbers.{check_alone, exists, is_tag, other_tag, written_alone, written_signed};
 ghost use Rattle.std.specs.Prelude.{◌≡◌};
 
 /// The tag over the blocks listed before it.
@@ -27,18 +27,6 @@ pub(crate) fn other_tag(number: u16) -> u16
     ensures { result ≡ other_tag number }
 {
     if number == MAC { MAC_A } else { MAC }
-}
-
-/// Whether a list names a block.
-pub(crate) fn lists(numbers: &[u16], block: u16) -> bool
-    ensures { result ≡ names block numbers.now }
-{
-    for number in numbers {
-        if *number == block {
-            return true;
-        }
-    }
-    false
 }
 
 /// Whether a list is CRC_CHECK alone.

@@ -1,16 +1,18 @@
 //! The decision on a write, up to the verdict on its MAC.
 ghost use Rattle.blocklist.specs.Faults.{judged};
 ghost use Rattle.decision.specs.Reads.{open_in};
-ghost use Rattle.decision.specs.Writes.{alone_tests, barred_in, blocks_planned, plan_of, signed_in, signed_tests, write_planned, write_tests};
+ghost use Rattle.decision.specs.Writes.{alone_tests, barred_in, blocks_planned, plan_of, signed_in, signed_tests, write_planned};
 ghost use Rattle.std.specs.Prelude.{◌≡◌, true, false};
 
 use crate::numbers::{MAC_A, is_written_alone, is_written_signed};
-use crate::read::READ_WRITE;
-use crate::view::{BLOCK_PLACE, MEMORY_PLACE, SERVICE_PLACE, View};
-use blocklist::{Fault, HEADER_PLACE, blocks_of};
+use crate::read::check_memory;
+use crate::service::check_write_service;
+use crate::view::View;
+use blocklist::{BLOCK_PLACE, Fault, HEADER_PLACE, blocks_of};
 use blocks::{Permission, ceiling};
 
 /// What a write that passes the tests is to do: write the block, and if it is signed, only after a verdict on its MAC.
+// Both kinds of write name one block, so that an enum of the two would carry it twice and say no more.
 #[derive(Clone, Copy)]
 pub struct WritePlan {
     pub block: u16,
@@ -22,10 +24,7 @@ impl View {
     fn needs_mac(&self, block: u16) -> bool
         ensures { result ≡ signed_in self.now block }
     {
-        match self.config.permission(block, self.stage) {
-            Permission::ReadOnly | Permission::ReadWrite => false,
-            Permission::ReadWriteMac => true,
-        }
+        self.config.permission(block, self.stage) == Permission::ReadWriteMac
     }
 
     /// Whether a write to a block waits until the hopper is authenticated.
@@ -33,19 +32,6 @@ impl View {
         ensures { result ≡ barred_in self.now block }
     {
         !self.authenticated && self.config.restricts_writing(block)
-    }
-
-    /// The service of a write, and soundness.
-    fn check_write(&self, service: u16) -> Result<(), Fault>
-        ensures { result ≡ judged (write_tests self.now service) (tt {0}) }
-    {
-        if service != READ_WRITE {
-            return Err(Fault::of_command(SERVICE_PLACE, 0x01, 0xA6));
-        }
-        if !self.sound {
-            return Err(Fault::of_command(MEMORY_PLACE, 0xFF, 0x70));
-        }
-        Ok(())
     }
 
     /// A write of one block.
@@ -106,7 +92,8 @@ impl View {
         ensures { result ≡ write_planned self.now service list.now counter }
     {
         let blocks = blocks_of(list)?;
-        self.check_write(service)?;
+        check_write_service(service)?;
+        check_memory(self.sound)?;
         self.plan_blocks(blocks.as_slice(), counter)
     }
 }

@@ -1,11 +1,11 @@
 -- Tests that the code's tables pass: computed once, they make a table's rule hold at each entry.
-use Rattle.std.specs.Prelude.{ℕ, zero, suc, ◌+◌, ◌-◌, ◌*◌, ◌/◌, ◌%◌, ◌^◌, Bool, true, ◌&&◌, List, [], ◌∷◌, nat_eq, nat_le, nat_lt, slice_index}
+use Rattle.std.specs.Prelude.{ℕ, zero, suc, ◌+◌, ◌-◌, ◌*◌, ◌/◌, ◌%◌, ◌^◌, Bool, true, ◌&&◌, List, nat_eq, nat_le, nat_lt, slice_index}
+use Rattle.std.specs.List.{list_all}
 use Rattle.des.specs.Des.{boxed}
 
 -- each place is one of a string of w bits
 abbrev pub within : ℕ → List ℕ → Bool
-within w [] = true
-within w (p ∷ ps) = (nat_lt 0 p && nat_le p w) && within w ps
+within w ps = list_all (λ p. nat_lt 0 p && nat_le p w) ps
 
 -- the test passes at each number below n
 abbrev pub all_below : ℕ → (ℕ → Bool) → Bool

@@ -1,19 +1,28 @@
 //! A table of places, applied to a string of bits.
-ghost use Rattle.std.specs.Prelude.{◌≡◌, ◌^◌, ◌<◌, ◌≤◌, T, length};
+ghost use Rattle.std.specs.Prelude.{◌≡◌, ◌^◌, ◌<◌, ◌≤◌, T};
 ghost use Rattle.des.specs.Des.{picked};
 ghost use Rattle.des.specs.Rows.{within};
 
-/// The bits of a string of `width` bits that `places` names, in its order.
-pub fn pick(width: u32, x: u64, places: &[u32]) -> u64
-    requires wide { width ≤ 64 }
-    requires short { length places.now ≤ 64 }
-    requires places { T (within width places.now) }
-    ensures value { result ≡ picked width x places.now }
-    ensures below { result < 2 ^ length places.now }
-{
-    let mut out: u64 = 0;
-    for p in places {
-        out = out * 2 + (x >> (width - *p)) % 2;
+/// The places of `N` bits in a string of `width` bits, counted from 1 at the high end.
+pub struct Table<const N: usize> {
+    pub width: u32,
+    pub places: [u32; N],
+    ghost wide: { width ≤ 64 },
+    ghost short: { N ≤ 64 },
+    ghost places_within: { T (within width places) },
+}
+
+impl<const N: usize> Table<N> {
+    /// The bits of a string that the table names, in its order.
+    #[tactic(auto, using(crate::proofs::Picks::picking))]
+    pub fn pick(&self, x: u64) -> u64
+        ensures value { result ≡ picked self.now.width x self.now.places }
+        ensures below { result < 2 ^ N }
+    {
+        let mut out: u64 = 0;
+        for p in &self.places {
+            out = out * 2 + (x >> (self.width - *p)) % 2;
+        }
+        out
     }
-    out
 }

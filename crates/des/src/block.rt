@@ -3,46 +3,16 @@ ghost use Rattle.std.specs.Prelude.{◌≡◌, ◌+◌, ◌*◌, ◌^◌, bit_xo
 ghost use Rattle.des.specs.Tables.{initial_permutation, final_permutation, bit_selection, permutation_p};
 ghost use Rattle.des.specs.Des.{picked, cipher_function, rounds as rounds_of, under_keys, des_forward, des_inverse};
 
-use crate::bits::pick;
 use crate::boxes::substitute;
 use crate::schedule::schedule_keys;
 use crate::tables::{EXPANSION, FINAL, INITIAL, PERMUTATION};
-
-fn permute_first(x: u64) -> u64
-    ensures { result ≡ picked 64 x initial_permutation }
-{
-    pick(64, x, &INITIAL)
-}
-
-fn permute_last(x: u64) -> u64
-    ensures { result ≡ picked 64 x final_permutation }
-{
-    pick(64, x, &FINAL)
-}
-
-fn expand(x: u32) -> u64
-    ensures { result ≡ picked 32 x bit_selection }
-{
-    pick(32, x as u64, &EXPANSION)
-}
-
-fn permute(x: u32) -> u32
-    ensures { result ≡ picked 32 x permutation_p }
-{
-    pick(32, x as u64, &PERMUTATION) as u32
-}
+use byte_arrays::joined;
 
 /// The cipher function f.
 fn mix(r: u32, key: u64) -> u32
     ensures { result ≡ cipher_function r key }
 {
-    permute(substitute(expand(r) ^ key))
-}
-
-fn join_halves(l: u32, r: u32) -> u64
-    ensures { result ≡ l * 2 ^ 32 + r }
-{
-    (l as u64) * 0x1_0000_0000 + r as u64
+    PERMUTATION.pick(substitute(EXPANSION.pick(r.into()) ^ key).into()) as u32
 }
 
 /// The halves after one round.
@@ -52,24 +22,27 @@ fn round(l: u32, r: u32, key: u64) -> (u32, u32)
     (r, l ^ mix(r, key))
 }
 
+/// The halves' rounds, one for each key; after the last the halves change places.
+#[tactic(auto, using(crate::proofs::Schedules::rounding))]
 fn run_rounds(mut l: u32, mut r: u32, keys: &[u64; 16]) -> u64
     ensures { result ≡ rounds_of l r keys.now }
 {
     for key in keys {
-        let (left, right) = round(l, r, *key);
-        l = left;
-        r = right;
+        (l, r) = round(l, r, *key);
     }
-    join_halves(r, l)
+    joined(r, l)
 }
 
 /// A block under sixteen round keys.
 fn run_keys(keys: &[u64; 16], x: u64) -> u64
     ensures { result ≡ under_keys keys.now x }
 {
-    let y = permute_first(x);
-    permute_last(run_rounds((y >> 32) as u32, (y % 0x1_0000_0000) as u32, keys))
+    let y = INITIAL.pick(x);
+    // Shift and remainder, as the definition has them: `y as u32` alone would lose bits, which the check refuses.
+    FINAL.pick(run_rounds((y >> 32) as u32, (y % 0x1_0000_0000) as u32, keys))
 }
+
+// Encryption and decryption are two functions: one would take a flag for the direction, and be no shorter.
 
 /// Encryption of a block. The round keys stay in the sheet: its guard wipes them.
 pub fn run_forward(key: u64, x: u64, sheet: &mut [u64; 16]) -> u64

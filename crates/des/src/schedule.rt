@@ -3,8 +3,53 @@ ghost use Rattle.std.specs.Prelude.{◌≡◌, ◌^◌, ◌<◌};
 ghost use Rattle.des.specs.Tables.{permuted_choice_1, permuted_choice_2, left_shifts};
 ghost use Rattle.des.specs.Des.{picked, shifted_half, shifted_once, shifted, scheduled, round_keys};
 
-use crate::bits::pick;
 use crate::tables::{CHOICE_ONE, CHOICE_TWO, SHIFTS};
+
+/// The 56 bits of a key that are used, in two halves of 28.
+#[derive(Clone, Copy)]
+struct KeyBits {
+    bits: u64,
+    ghost below: { bits < 2 ^ 56 },
+}
+
+impl KeyBits {
+    /// The bits that are used of a key.
+    fn chosen(key: u64) -> KeyBits
+        ensures { result.bits ≡ picked 64 key permuted_choice_1 }
+    {
+        KeyBits {
+            bits: CHOICE_ONE.pick(key),
+        }
+    }
+
+    /// Both halves shifted left by one place.
+    fn shifted_once(self) -> KeyBits
+        ensures { result.bits ≡ shifted_once self.bits }
+    {
+        KeyBits {
+            bits: shift_half(self.bits / 0x1000_0000) * 0x1000_0000
+                + shift_half(self.bits % 0x1000_0000),
+        }
+    }
+
+    /// By one place or by two.
+    fn shifted(self, n: u8) -> KeyBits
+        ensures { result.bits ≡ shifted n self.bits }
+    {
+        if n == 1 {
+            self.shifted_once()
+        } else {
+            self.shifted_once().shifted_once()
+        }
+    }
+
+    /// The bits that make a round key.
+    fn round_key(self) -> u64
+        ensures { result ≡ picked 56 self.bits permuted_choice_2 }
+    {
+        CHOICE_TWO.pick(self.bits)
+    }
+}
 
 /// 28 bits shifted left by one place, the first bit coming last.
 fn shift_half(x: u64) -> u64
@@ -15,50 +60,14 @@ fn shift_half(x: u64) -> u64
     x * 2 % 0x1000_0000 + x / 0x800_0000
 }
 
-/// Both halves of 56 bits, each shifted left by one place.
-fn shift_once(x: u64) -> u64
-    requires { x < 2 ^ 56 }
-    ensures value { result ≡ shifted_once x }
-    ensures below { result < 2 ^ 56 }
+/// The round keys that key bits give. (After a loop over `sheet.iter_mut().zip(..)` nothing is proved of the sheet.)
+#[tactic(auto, using(crate::proofs::Schedules::scheduling))]
+fn fill(mut x: KeyBits, sheet: &mut [u64; 16])
+    ensures { sheet.new ≡ scheduled x.bits left_shifts }
 {
-    shift_half(x / 0x1000_0000) * 0x1000_0000 + shift_half(x % 0x1000_0000)
-}
-
-/// By one place or by two.
-fn shift(n: u8, x: u64) -> u64
-    requires { x < 2 ^ 56 }
-    ensures value { result ≡ shifted n x }
-    ensures below { result < 2 ^ 56 }
-{
-    if n == 1 {
-        shift_once(x)
-    } else {
-        shift_once(shift_once(x))
-    }
-}
-
-fn choose_one(key: u64) -> u64
-    ensures value { result ≡ picked 64 key permuted_choice_1 }
-    ensures below { result < 2 ^ 56 }
-{
-    pick(64, key, &CHOICE_ONE)
-}
-
-fn choose_two(x: u64) -> u64
-    ensures value { result ≡ picked 56 x permuted_choice_2 }
-    ensures below { result < 2 ^ 48 }
-{
-    pick(56, x, &CHOICE_TWO)
-}
-
-/// The round keys that 56 key bits give.
-fn fill(mut x: u64, sheet: &mut [u64; 16])
-    requires { x < 2 ^ 56 }
-    ensures { sheet.new ≡ scheduled x left_shifts }
-{
-    for i in 0..16_usize {
-        x = shift(SHIFTS[i], x);
-        sheet[i] = choose_two(x);
+    for (i, n) in SHIFTS.iter().enumerate() {
+        x = x.shifted(*n);
+        sheet[i] = x.round_key();
     }
 }
 
@@ -66,5 +75,5 @@ fn fill(mut x: u64, sheet: &mut [u64; 16])
 pub fn schedule_keys(key: u64, sheet: &mut [u64; 16])
     ensures { sheet.new ≡ round_keys key }
 {
-    fill(choose_one(key), sheet);
+    fill(KeyBits::chosen(key), sheet);
 }

@@ -1,13 +1,14 @@
 -- The proofs of the laws of frames.
-use Rattle.std.proofs.Common.{◌≡◌, ℕ, ◌+◌, ◌-◌, ◌/◌, ◌%◌, ◌≤◌, Bool, true, false, cond, List, [], ◌∷◌, ◌++◌, length, get_or, take, drop, Some, None, sym, refl, ap, ◌∙◌, add-one, arith, length-append, rules}
+use Rattle.std.proofs.Common.{◌≡◌, ℕ, ◌+◌, ◌-◌, ◌/◌, ◌%◌, ◌<◌, ◌≤◌, Bool, true, false, cond, if◌then◌else◌, eqb, ap₂, length-drop, get_or-drop, List, [], ◌∷◌, ◌++◌, length, get_or, take, drop, Some, None, sym, refl, ap, ◌∙◌, add-one, mod-eq_of_lt, arith, length-append, rules}
 use Rattle.std.proofs.lemmas.List.{places, take-append-drop, drop_more, drop_all, drop-drop, take_at, get_or_at, get_or-append-add}
 use Rattle.std.proofs.lemmas.Bool.Decides.{nat_tests}
 use Rattle.std.proofs.lemmas.Bool.{and_parts, eqb-true, leb-true}
 use Rattle.std.specs.List.{between}
+use Rattle.std.specs.Cmp.Lexicographic.{pointwise}
 use Rattle.crc.specs.Crc.{crc_of}
 use Rattle.frame.specs.Memory.{written}
 use Rattle.frame.proofs.Written.{written_back}
-use Rattle.frame.specs.Frames.{frame_of, covered, framed, unframed}
+use Rattle.frame.specs.Frames.{frame_of, covered, framed, opens_frame, unframed}
 
 -- what a frame shows at its places
 pub length-frame : (p : List ℕ) → length (frame_of p) ≡ length p + 11
@@ -125,8 +126,9 @@ ends s h =
     let z = drop_all (length s - 1 + 1) s (omega arith) in
     cc
 
-pub covers : (s : List ℕ) → Shows s → between 8 (length s - 2) s ≡ covered (between 9 (length s - 2) s)
-covers s h =
+pub covers : (s : List ℕ) → 11 ≤ length s → get_or s 8 0 ≡ length s - 10
+    → between 8 (length s - 2) s ≡ covered (between 9 (length s - 2) s)
+covers s h b =
     let d = drop_more s 8 0 (omega arith) in
     let e : length s - 2 - 8 ≡ (length s - 2 - 9) + 1 = omega arith in
     let l : length (between 9 (length s - 2) s) ≡ length s - 11 = search (rules, places) in
@@ -140,7 +142,7 @@ whole s h =
     let d3 = drop_more s 3 0 (omega arith) in let d4 = drop_more s 4 0 (omega arith) in let d5 = drop_more s 5 0 (omega arith) in
     let d6 = drop_more s 6 0 (omega arith) in let d7 = drop_more s 7 0 (omega arith) in let d8 = drop_more s 8 0 (omega arith) in
     let e = ends s h in
-    let c = covers s h in
+    let c = covers s h.low h.len in
     let l : length (between 9 (length s - 2) s) ≡ length s - 11 = search (rules, places) in
     let k : get_or s 8 0 ≡ length (between 9 (length s - 2) s) + 1 = omega (arith, l) in
     cc
@@ -166,3 +168,39 @@ pub back_written : (m p : List ℕ) (at : ℕ) → length p ≤ 254 → at + len
 back_written m p at h l =
     let w = written_back m at (frame_of p) (length p + 11) (length-frame p) (omega arith) in
     ap unframed w ∙ back p h
+
+-- the packet in the bytes after a frame's opening: they begin with the length, and end with two bytes of CRC
+abbrev middle : List ℕ → List ℕ
+middle rest = take (length rest - 2 - 1) (drop 1 rest)
+
+-- whether these two are a CRC, high byte first
+abbrev crc_right : ℕ → List ℕ → Bool
+crc_right crc rest =
+    pointwise eqb (crc / 256 % 256 ∷ crc % 256 ∷ []) (get_or rest (length rest - 2) 0 ∷ get_or rest (length rest - 1) 0 ∷ [])
+
+opened : (s rest : List ℕ) → Some rest ≡ (if opens_frame s then Some (drop 8 s) else None) → (opens_frame s ≡ true) × (rest ≡ drop 8 s)
+opened s rest e = grind (arith, nat_tests)
+
+-- where opening and length are right, the CRC decides
+pub crc_decides : (s rest : List ℕ) (crc : ℕ) → Some rest ≡ (if opens_frame s then Some (drop 8 s) else None) → 3 ≤ length rest
+    → get_or rest 0 0 ≡ length (middle rest) + 1 → get_or rest 0 0 < 256 → crc ≡ crc_of (covered (middle rest)) → crc < 65536
+    → unframed s ≡ cond (crc_right crc rest) (Some (middle rest)) None
+crc_decides s rest crc o l n b c f =
+    let p = opened s rest o in
+    let r = p.1 in
+    let len : length rest ≡ length s - 8 = ap length r ∙ length-drop 8 s in
+    let size : length s ≡ length rest + 8 = omega arith in
+    let m : middle rest ≡ between 9 (length s - 2) s =
+    ap₂ (λ k (xs : List ℕ). take k xs) (omega arith) (ap (λ (xs : List ℕ). drop 1 xs) r ∙ drop-drop 1 8 s) in
+    let lm : length (middle rest) ≡ length rest - 3 = search (rules, places) in
+    let head : get_or s 8 0 ≡ get_or rest 0 0 = sym (ap (λ (xs : List ℕ). get_or xs 0 0) r ∙ get_or-drop 8 s 0 0) in
+    let right : get_or s 8 0 ≡ length s - 10 = omega arith in
+    let high : get_or s (length s - 2) 0 ≡ get_or rest (length rest - 2) 0 =
+    ap (λ k. get_or s k 0) (omega arith) ∙ sym (ap (λ (xs : List ℕ). get_or xs (length rest - 2) 0) r ∙ get_or-drop 8 s (length rest - 2) 0) in
+    let low : get_or s (length s - 1) 0 ≡ get_or rest (length rest - 1) 0 =
+    ap (λ k. get_or s k 0) (omega arith) ∙ sym (ap (λ (xs : List ℕ). get_or xs (length rest - 1) 0) r ∙ get_or-drop 8 s (length rest - 1) 0) in
+    let cov : crc ≡ crc_of (between 8 (length s - 2) s) = c ∙ ap (λ xs. crc_of (covered xs)) m ∙ ap crc_of (sym (covers s (omega arith) right)) in
+    let t : opens_frame s ≡ true = p.0 in
+    let x : crc / 256 % 256 ≡ crc / 256 = mod-eq_of_lt (omega arith) in
+    let q : framed s ≡ crc_right crc rest = grind (arith, nat_tests) in
+    rw (q, m) refl

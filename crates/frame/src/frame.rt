@@ -1,8 +1,8 @@
 //! Frames: a packet with the preamble, the length before it and the CRC after it.
-ghost use Rattle.std.specs.Prelude.{◌≡◌, ◌+◌, ◌-◌, ◌≤◌, length};
+ghost use Rattle.std.specs.Prelude.{◌≡◌, ◌+◌, ◌≤◌, length, drop, Some, None, if◌then◌else◌};
 ghost use Rattle.crc.specs.Crc.{crc_of};
 ghost use Rattle.std.specs.Option.{option_map};
-ghost use Rattle.frame.specs.Frames.{answered, covered, frame_of, frame_put, framed, opens_frame, unframed};
+ghost use Rattle.frame.specs.Frames.{answered, covered, frame_of, frame_put, opens_frame, unframed};
 ghost use Rattle.frame.specs.FrameLaws.{FramesAreTakenOut, OnlyFramesAreTakenOut};
 ghost use Rattle.frame.specs.Memory.{written};
 
@@ -15,42 +15,35 @@ pub enum FrameError {
     NoRoom,
 }
 
-/// Whether bytes begin as a frame does.
-fn opens(bytes: &[u8]) -> bool
-    ensures { result ≡ opens_frame bytes.now }
-{
-    matches!(bytes, [0, 0, 0, 0, 0, 0, 0xB2, 0x4D, ..])
-}
-
-/// Whether bytes are a frame.
-fn is_frame(bytes: &[u8]) -> bool
-    ensures { result ≡ framed bytes.now }
-{
-    let size = bytes.len();
-    if size < 11 || !opens(bytes) || usize::from(bytes[8]) != size - 10 {
-        return false;
-    }
-    let crc = crc::crc_of(&bytes[8..size - 2]);
-    u16::from(bytes[size - 2]) == crc / 256 && u16::from(bytes[size - 1]) == crc % 256
-}
-
-/// The packet in a frame, or nothing where the bytes are no frame.
-pub fn take_packet(bytes: &[u8]) -> Option<&[u8]>
-    ensures { option_map (λ x. x.now) result ≡ unframed bytes.now }
-{
-    if is_frame(bytes) {
-        Some(&bytes[9..bytes.len() - 2])
-    } else {
-        None
-    }
-}
-
 /// The CRC of a frame's length byte and packet.
 fn frame_crc(size: u8, packet: &[u8]) -> u16
     requires { size ≡ length packet.now + 1 }
     ensures { result ≡ crc_of (covered packet.now) }
 {
     crc::crc_after(crc::crc_of(&[size]), packet)
+}
+
+/// The bytes after those that a frame begins with, or nothing where others come first.
+fn after_opening(bytes: &[u8]) -> Option<&[u8]>
+    ensures { option_map (λ x. x.now) result ≡ (if opens_frame bytes.now then Some (drop 8 bytes.now) else None) }
+{
+    bytes.strip_prefix(&[0, 0, 0, 0, 0, 0, 0xB2, 0x4D])
+}
+
+/// The packet in a frame, or nothing where the bytes are no frame.
+pub fn take_packet(bytes: &[u8]) -> Option<&[u8]>
+    ensures { option_map (λ x. x.now) result ≡ unframed bytes.now }
+{
+    let [size, packet @ .., high, low] = after_opening(bytes)? else {
+        return None;
+    };
+    if usize::from(*size) != packet.len() + 1 {
+        return None;
+    }
+    if frame_crc(*size, packet).to_be_bytes() != [*high, *low] {
+        return None;
+    }
+    Some(packet)
 }
 
 /// Writes the frame of a packet where there is room for it.
@@ -62,11 +55,7 @@ fn write_frame(memory: &mut [u8], at: usize, packet: &[u8])
     let crc = frame_crc(size, packet);
     put(memory, at, &[0, 0, 0, 0, 0, 0, 0xB2, 0x4D, size]);
     put(memory, at + 9, packet);
-    put(
-        memory,
-        at + 9 + packet.len(),
-        &[(crc / 256) as u8, (crc % 256) as u8],
-    );
+    put(memory, at + 9 + packet.len(), &crc.to_be_bytes());
 }
 
 /// Writes the frame of a packet at an offset of lent memory, and answers the offset after it. Nothing is written
@@ -78,7 +67,7 @@ pub fn put_frame(memory: &mut [u8], at: usize, packet: &[u8]) -> Result<usize, F
         return Err(FrameError::PacketTooLong);
     }
     let size = packet.len() + 11;
-    if memory.len() < size || at > memory.len() - size {
+    if memory.len().saturating_sub(at) < size {
         return Err(FrameError::NoRoom);
     }
     write_frame(memory, at, packet);

@@ -36,7 +36,7 @@ fn add_blocks(answer: &mut Answer, list: &[u8], payload: &[u8]) -> Result<(), Al
     match blocks_of(list) {
         Ok(blocks) => {
             let numbers = blocks.as_slice();
-            answer.extend_from_slice(&[0, (numbers.len() % 256) as u8])?;
+            answer.extend_from_slice(&[0, numbers.len() as u8])?;
             for number in numbers {
                 answer.extend_from_slice(&number.to_le_bytes())?;
             }
@@ -80,6 +80,7 @@ pub fn heard(heap: Global, bytes: &[u8]) -> Result<Answer, AllocError> {
         answer.push(0)?;
         return Ok(answer);
     }
+    // The packet is taken out once more: `heard` is the call that the questions are about.
     match Command::heard(bytes) {
         Command::Polling { request, slots } => answer.extend_from_slice(&[1, request, slots])?,
         Command::Read(request) => add_read(&mut answer, request)?,

@@ -19,15 +19,11 @@ check_block sound = cond sound 0x00 0xFF ∷ replicate 15 0
 
 -- But SYS_C is the system code, CK reads as zeros, WCNT as the counter, STATE as the session stands, and CRC_CHECK says
 -- whether the hopper is sound. (RC, MAC and MAC_A lie in no cell.)
-abbrev pub block_read : List Cell → View → Session → ℕ → List ℕ
-block_read ws x s b =
+unfoldable pub reads_as : List Cell → View → Session → ℕ → List ℕ
+reads_as ws x s b =
     cond (b == 0x85) (0x88 ∷ 0xB4 ∷ replicate 14 0)
     (cond (b == 0x87) zeros
     (cond (b == 0x90) (counter_block x.counter)
     (cond (b == 0x92) (state_block s)
     (cond (b == 0xA0) (check_block x.sound)
     (stored_as ws (cell_of b))))))
-
--- the same under a name that is opened only where its cases matter
-unfoldable pub reads_as : List Cell → View → Session → ℕ → List ℕ
-reads_as ws x s b = block_read ws x s b

@@ -1,5 +1,6 @@
 -- The 22 cells of a hopper, and what follows from them.
-use Rattle.std.specs.Prelude.{ℕ, Bool, true, false, ◌&&◌, List, [], ◌∷◌, replicate, slice_index_or}
+use Rattle.std.specs.Prelude.{ℕ, Bool, true, false, List, replicate, slice_index_or}
+use Rattle.std.specs.List.{list_all}
 use Rattle.memory.specs.declared.cell.Cell.{Cell}
 use Rattle.memory.specs.declared.cell.Cell.TheVariants.{Good, Torn}
 use Rattle.blocks.specs.declared.stage.Stage.{Stage}
@@ -45,9 +46,8 @@ is_good (Good bytes) = true
 is_good Torn = false
 
 -- a hopper is sound if all its cells are good
-unfoldable pub all_good : List Cell → Bool
-all_good [] = true
-all_good (c ∷ cs) = is_good c && all_good cs
+abbrev pub all_good : List Cell → Bool
+all_good ws = list_all is_good ws
 
 -- what decisions rest on
 abbrev pub view : List Cell → Volatile → View

@@ -5,6 +5,7 @@ mod read;
 mod store;
 mod window;
 
+pub use blocks::CELLS;
 pub use read::read_block;
 pub use store::{BlockWrite, accepted_flags, stored};
-pub use window::{CELLS, held, is_sound, stage_in, view};
+pub use window::{held, is_sound, stage_in, view};

@@ -1,9 +1,9 @@
 //! What blocks read as.
-ghost use Rattle.hopper.specs.ReadsAs.{block_read, check_block, reads_as};
+ghost use Rattle.hopper.specs.ReadsAs.{check_block, reads_as};
 ghost use Rattle.std.specs.Prelude.{◌≡◌};
 
 use crate::window::held;
-use blocks::{cell_of, counter_block};
+use blocks::{CELLS, cell_of, counter_block};
 use decision::View;
 use memory::cell::Cell;
 use volatile::Session;
@@ -12,15 +12,9 @@ use volatile::Session;
 const SYSTEM: [u8; 16] = [0x88, 0xB4, 0, 0, 0, 0, 0, 0, 0, 0, 0, 0, 0, 0, 0, 0];
 
 /// What a block reads as; a tag, which is not known here, as zeros.
-pub fn read_block(cells: &[Cell; 22], view: &View, session: &Session, block: u16) -> [u8; 16]
+#[tactic(auto, unfolding(crate::specs::ReadsAs::reads_as))]
+pub fn read_block(cells: &[Cell; CELLS], view: &View, session: &Session, block: u16) -> [u8; 16]
     ensures { result ≡ reads_as cells.now view.now session.now block }
-{
-    block_read(cells, view, session, block)
-}
-
-/// The same, by the kind of the block.
-fn block_read(cells: &[Cell; 22], view: &View, session: &Session, block: u16) -> [u8; 16]
-    ensures { result ≡ block_read cells.now view.now session.now block }
 {
     match block {
         0x85 => SYSTEM,
@@ -28,6 +22,7 @@ fn block_read(cells: &[Cell; 22], view: &View, session: &Session, block: u16) ->
         0x90 => counter_block(view.counter),
         0x92 => session.state_block(),
         0xA0 => check_block(view.sound),
+        // Tried with `map_or` and a closure: the proof of this arm did not close.
         _ => match cell_of(block) {
             Some(cell) => held(cells, cell),
             None => [0; 16],

@@ -1,5 +1,5 @@
 //! What an accepted write stores.
-ghost use Rattle.hopper.specs.Stores.{accepted_flags, block_write, counts_state, next_counter, reaches_cell, stored};
+ghost use Rattle.hopper.specs.Stores.{accepted_flags, stored};
 ghost use Rattle.std.specs.Prelude.{◌≡◌};
 
 use blocklist::Flags;
@@ -14,36 +14,22 @@ pub struct BlockWrite {
     pub counter: u32,
 }
 
-/// The counter after an accepted write to a block.
-fn next_counter(view: &View, block: u16) -> u32
-    ensures { result ≡ next_counter view.now block }
-{
-    view.config.counter_after(block, view.stage, view.counter)
-}
-
 /// What an accepted write of a block stores, if anything.
 pub fn stored(view: &View, block: u16, sent: &[u8; 16]) -> Option<BlockWrite>
     ensures { result ≡ stored view.now block sent.now }
 {
-    let counter = next_counter(view, block);
-    match block {
-        0x88 => Some(BlockWrite {
-            block,
-            bytes: view.config.merged(view.stage, sent),
-            counter,
-        }),
-        0x00..=0x0E | 0x82 | 0x84 | 0x86..=0x87 => Some(BlockWrite {
-            block,
-            bytes: *sent,
-            counter,
-        }),
-        0x92 if view.config.signs_state() => Some(BlockWrite {
-            block: 0x90,
-            bytes: counter_block(counter),
-            counter,
-        }),
-        _ => None,
-    }
+    let counter = view.config.counter_after(block, view.stage, view.counter);
+    let (block, bytes) = match block {
+        0x88 => (block, view.config.merged(view.stage, sent)),
+        0x00..=0x0E | 0x82 | 0x84 | 0x86..=0x87 => (block, *sent),
+        0x92 if view.config.signs_state() => (0x90, counter_block(counter)),
+        _ => return None,
+    };
+    Some(BlockWrite {
+        block,
+        bytes,
+        counter,
+    })
 }
 
 /// The flags of the reply to an accepted write.

@@ -1,5 +1,6 @@
 -- The burns of a write: each writes one cell.
-use Rattle.std.specs.Prelude.{ℕ, ◌+◌, ◌*◌, cond, List, replicate, Some, None, Option}
+use Rattle.std.specs.Prelude.{ℕ, cond, List, replicate, Some, None, Option}
+use Rattle.blocks.specs.Cells.{hopper_cell}
 use Rattle.blocks.specs.Counters.{counter_block}
 use Rattle.memory.specs.declared.cell.Cell.{Cell}
 use Rattle.memory.specs.declared.cell.Cell.TheVariants.{Good, Torn}
@@ -7,7 +8,7 @@ use Rattle.journal.specs.declared.entry.Entry.{Entry}
 use Rattle.journal.specs.declared.burn.Burn.{Burn}
 use Rattle.journal.specs.declared.burn.Phase.{Phase}
 use Rattle.journal.specs.declared.burn.Phase.TheVariants.{Buffer, Mark, Home, Count, Clear}
-use Rattle.journal.specs.Marks.{home, is_mark, mark_bytes, noted_by}
+use Rattle.journal.specs.Marks.{home_of, is_mark, mark_bytes, noted_by}
 
 -- the two cells of the write buffer, behind those of the hoppers
 abbrev pub buffer_cell : ℕ
@@ -16,15 +17,11 @@ buffer_cell = 88
 abbrev pub mark_cell : ℕ
 mark_cell = 89
 
--- the cell of a hopper in the memory
-abbrev pub hopper_cell : ℕ → ℕ → ℕ
-hopper_cell hopper cell = 22 * hopper + cell
-
 -- which cell a burn writes
 abbrev pub target : Phase → Entry → ℕ
 target Buffer e = buffer_cell
 target Mark e = mark_cell
-target Home e = hopper_cell e.hopper (home e.write.block)
+target Home e = hopper_cell e.hopper (home_of e.write.block)
 target Count e = hopper_cell e.hopper 21
 target Clear e = mark_cell
 

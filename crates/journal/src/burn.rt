@@ -2,6 +2,7 @@
 use crate::entry::Entry;
 
 /// The five burns in their order.
+// The phase lies as data in a value that is copied and needs no heap from one call to the next, so it is no closure.
 #[derive(Clone, Copy)]
 pub enum Phase {
     /// the new bytes into the buffer

@@ -1,10 +1,9 @@
 //! Marks.
-ghost use Rattle.journal.specs.Marks.{ends_clear, home_of, mark_of, may_mark, noted_by, reads_mark};
-ghost use Rattle.blocks.specs.Counters.{three_byte_number};
-ghost use Rattle.std.specs.Prelude.{◌≡◌, ◌<◌, drop};
+ghost use Rattle.journal.specs.Marks.{ends_clear, home_of, is_mark, mark_bytes, may_mark, noted_by};
+ghost use Rattle.std.specs.Prelude.{◌≡◌, ◌<◌};
 
 use crate::entry::Entry;
-use blocks::cell_of;
+use blocks::{COUNTER_CELL, cell_of, three_byte_number};
 use hopper::BlockWrite;
 
 /// The first byte of a mark.
@@ -25,55 +24,35 @@ fn ends_clear(mark: &[u8; 16]) -> bool
 }
 
 /// Whether sixteen bytes are a mark.
-pub(crate) fn reads_mark(mark: &[u8; 16]) -> bool
-    ensures { result ≡ reads_mark mark.now }
+pub(crate) fn is_mark(mark: &[u8; 16]) -> bool
+    ensures { result ≡ is_mark mark.now }
 {
     mark[0] == MARK && mark[1] < 4 && may_mark(mark[2]) && ends_clear(mark)
 }
 
 /// The mark of a write.
-pub(crate) fn mark_of(entry: &Entry) -> [u8; 16]
-    ensures { result ≡ mark_of entry.now }
+pub(crate) fn mark_bytes(entry: &Entry) -> [u8; 16]
+    ensures { result ≡ mark_bytes entry.now }
 {
+    let [block, _] = entry.write.block.to_le_bytes();
     let [low, middle, high, _] = entry.write.counter.to_le_bytes();
-    let block = (entry.write.block % 256) as u8;
-    [
-        MARK,
-        entry.hopper,
-        block,
-        low,
-        middle,
-        high,
-        0,
-        0,
-        0,
-        0,
-        0,
-        0,
-        0,
-        0,
-        0,
-        0,
-    ]
-}
-
-/// The counter in a mark.
-fn counter_in(mark: &[u8; 16]) -> u32
-    ensures { result ≡ three_byte_number (drop 3 mark.now) }
-{
-    u32::from(mark[3]) + 256 * u32::from(mark[4]) + 65536 * u32::from(mark[5])
+    let mut mark = [0; 16];
+    mark[0..6].copy_from_slice(&[MARK, entry.hopper, block, low, middle, high]);
+    mark
 }
 
 /// The write that a mark notes.
+#[tactic(auto, using(std::proofs::lemmas::List::places), unfolding(blocks::specs::Counters::three_byte_number))]
 pub(crate) fn noted_by(mark: &[u8; 16], bytes: [u8; 16]) -> Entry
     ensures { result ≡ noted_by mark.now bytes }
 {
+    let [_, hopper, block, low, middle, high, ..] = *mark;
     Entry {
-        hopper: mark[1],
+        hopper,
         write: BlockWrite {
-            block: u16::from(mark[2]),
+            block: u16::from(block),
             bytes,
-            counter: counter_in(mark),
+            counter: three_byte_number([low, middle, high]),
         },
     }
 }
@@ -83,8 +62,5 @@ pub fn home_of(block: u16) -> usize
     ensures value { result ≡ home_of block }
     ensures small { result < 22 }
 {
-    match cell_of(block) {
-        Some(cell) => cell,
-        None => 21,
-    }
+    cell_of(block).unwrap_or(COUNTER_CELL)
 }

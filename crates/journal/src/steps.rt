@@ -1,52 +1,23 @@
 //! What each burn writes, and what follows it.
-ghost use Rattle.journal.specs.Burns.{burns_left, content, following, hopper_cell, target};
-ghost use Rattle.journal.specs.Marks.{home, mark_bytes};
-ghost use Rattle.std.specs.Prelude.{◌≡◌, ◌<◌};
+ghost use Rattle.journal.specs.Burns.{burns_left, content, following, target};
+ghost use Rattle.std.specs.Prelude.{◌≡◌};
 
 use crate::burn::{Burn, Phase};
 use crate::entry::{BUFFER_CELL, Entry, MARK_CELL};
-use crate::marks::{home_of, mark_of};
-use blocks::counter_block;
-
-/// The cells of one hopper, and the last of them, the counter's.
-const CELLS: usize = 22;
-
-const COUNTER_CELL: usize = 21;
-
-/// The home of a block among its hopper's cells.
-fn home(block: u16) -> usize
-    ensures value { result ≡ home block }
-    ensures small { result < 22 }
-{
-    home_of(block)
-}
-
-/// The mark of a write.
-fn mark_bytes(entry: &Entry) -> [u8; 16]
-    ensures { result ≡ mark_bytes entry.now }
-{
-    mark_of(entry)
-}
-
-/// A cell of a hopper in the memory.
-fn hopper_cell(hopper: u8, cell: usize) -> usize
-    requires { cell < 256 }
-    ensures { result ≡ hopper_cell hopper cell }
-{
-    CELLS * usize::from(hopper) + cell
-}
+use crate::marks::{home_of, mark_bytes};
+use blocks::{COUNTER_CELL, counter_block, first_cell};
 
 impl Burn {
     /// The cell that the burn writes.
     pub fn target(&self) -> usize
         ensures { result ≡ target self.now.phase self.now.entry }
     {
-        let hopper = self.entry.hopper;
+        let first = first_cell(self.entry.hopper);
         match self.phase {
             Phase::Buffer => BUFFER_CELL,
             Phase::Mark | Phase::Clear => MARK_CELL,
-            Phase::Home => hopper_cell(hopper, home(self.entry.write.block)),
-            Phase::Count => hopper_cell(hopper, COUNTER_CELL),
+            Phase::Home => first + home_of(self.entry.write.block),
+            Phase::Count => first + COUNTER_CELL,
         }
     }
 

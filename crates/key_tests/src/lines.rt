@@ -1,42 +1,26 @@
 //! Lines of the key list: the built-in example, and lines that are refused.
+ghost use Rattle.std.specs.Prelude.{◌<◌};
+
 use keyline::example::EXAMPLE;
 use keyline::line::{LineFault, derived_line};
 
-//// Whether the line is answered by this text.
+/// Whether the line is answered by this text.
 fn gives(line: &[u8], text: &[u8; 65]) -> bool {
-    match derived_line(line) {
-        Ok(made) => made == *text,
-        Err(_) => false,
-    }
+    derived_line(line).is_ok_and(|made| made == *text)
 }
 
 /// The answers were written by the second program.
 #[test]
 fn the_example_is_answered(rt: HostRuntime) {
-    assert!(rt;
-        gives(
-            EXAMPLE[0],
-            b"00000000000000010000000000000000 0046AC4FEDE21634DFDBB10AE0918B3B",
-        )
-    );
-    assert!(rt;
-        gives(
-            EXAMPLE[1],
-            b"00000000000000020000000000000000 C01CACA2BA0B9E95C961C952A53C1AF2",
-        )
-    );
-    assert!(rt;
-        gives(
-            EXAMPLE[2],
-            b"00000000000000030000000000000000 E85D636473EF0CD99B916F11D583485C",
-        )
-    );
-    assert!(rt;
-        gives(
-            EXAMPLE[3],
-            b"00000000000000040000000000000000 D4EC2BD0FD1A279AA10480787CEFEB24",
-        )
-    );
+    let answers = [
+        b"00000000000000010000000000000000 0046AC4FEDE21634DFDBB10AE0918B3B",
+        b"00000000000000020000000000000000 C01CACA2BA0B9E95C961C952A53C1AF2",
+        b"00000000000000030000000000000000 E85D636473EF0CD99B916F11D583485C",
+        b"00000000000000040000000000000000 D4EC2BD0FD1A279AA10480787CEFEB24",
+    ];
+    for (line, text) in EXAMPLE.iter().zip(answers) {
+        assert!(rt; gives(*line, text));
+    }
 }
 
 #[test]
@@ -50,25 +34,24 @@ fn lines_of_another_length_are_refused(rt: HostRuntime) {
     assert!(rt; matches!(derived_line(long), Err(LineFault::Length(82))));
 }
 
-/// The fault of a line that is good but for one character.
-fn column_refused(place: usize, c: u8) -> usize {
-    let good: &[u8; 81] = EXAMPLE[0];
-    let mut line = *good;
-    if place < 81 {
-        line[place] = c;
-    }
+/// The column that is refused in a line that is good but for one character.
+fn column_refused(place: usize, c: u8) -> Option<usize>
+    requires { place < 81 }
+{
+    let mut line = *EXAMPLE[0];
+    line[place] = c;
     match derived_line(&line) {
-        Err(LineFault::Character(column)) => column,
-        _ => 0,
+        Err(LineFault::Character(column)) => Some(column),
+        _ => None,
     }
 }
 
 #[test]
 fn characters_out_of_place_are_refused(rt: HostRuntime) {
-    assert_eq!(rt; column_refused(17, b'g'), 18);
-    assert_eq!(rt; column_refused(48, b'0'), 49);
-    assert_eq!(rt; column_refused(80, b' '), 81);
-    assert_eq!(rt; column_refused(0, b'0'), 0);
+    assert_eq!(rt; column_refused(17, b'g'), Some(18));
+    assert_eq!(rt; column_refused(48, b'0'), Some(49));
+    assert_eq!(rt; column_refused(80, b' '), Some(81));
+    assert_eq!(rt; column_refused(0, b'0'), None);
 }
 
 #[test]

@@ -52,8 +52,8 @@ fn the_manuals_session_gives_its_tag(rt: HostRuntime) -> Result<(), Fail> {
         return Err(Fail::new("16 bytes make no key"));
     };
     let mut key = [0; 16];
-    key[8..16].copy_from_slice(&keys.second);
-    key[0..8].copy_from_slice(&keys.first);
+    key[..8].copy_from_slice(&keys.first);
+    key[8..].copy_from_slice(&keys.second);
     let start = turn_round(0xf1875a01f9b29e4c_u64.to_be_bytes());
     let text = [
         0x82009100ffffffff_u64.to_be_bytes(),

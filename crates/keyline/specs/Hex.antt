@@ -1,5 +1,6 @@
 -- Bytes as hexadecimal digits, two a byte, the high one first; characters are their ASCII codes.
-use Rattle.std.specs.Prelude.{ℕ, zero, suc, ◌+◌, ◌-◌, ◌*◌, ◌/◌, ◌%◌, Bool, cond, ◌&&◌, ◌||◌, List, [], ◌∷◌, nat_le, nat_lt, slice_index}
+use Rattle.std.specs.Prelude.{ℕ, ◌+◌, ◌-◌, ◌*◌, ◌/◌, ◌%◌, Bool, cond, ◌&&◌, ◌||◌, List, [], ◌∷◌, flat_map, map, nat_le, nat_lt, slice_index}
+use Rattle.std.specs.List.{range_with_len}
 
 abbrev pub between : ℕ → ℕ → ℕ → Bool
 between low high c = nat_le low c && nat_le c high
@@ -18,14 +19,16 @@ byte_at text i = value_of (slice_index text i) * 16 + value_of (slice_index text
 
 -- the n bytes that the digits from place i on write
 unfoldable pub bytes_at : ℕ → List ℕ → ℕ → List ℕ
-bytes_at zero text i = []
-bytes_at (suc n) text i = byte_at text i ∷ bytes_at n text (i + 2)
+bytes_at n text i = map (λ k. byte_at text (i + 2 * k)) (range_with_len 0 n)
 
 -- the digit of a number below sixteen
 abbrev pub capital : ℕ → ℕ
 capital n = cond (nat_lt n 10) (0x30 + n) (0x37 + n)
 
+-- the two digits of a byte
+abbrev pub capitals : ℕ → List ℕ
+capitals b = capital (b / 16) ∷ capital (b % 16) ∷ []
+
 -- bytes in capital digits
 unfoldable pub hex_of : List ℕ → List ℕ
-hex_of [] = []
-hex_of (b ∷ bs) = capital (b / 16) ∷ capital (b % 16) ∷ hex_of bs
+hex_of bytes = flat_map capitals bytes

@@ -1,5 +1,6 @@
 -- A line of the key list: a master key of 48 digits, one space, an ID of 32 digits; and its answer.
-use Rattle.std.specs.Prelude.{ℕ, ◌+◌, Bool, cond, List, [], ◌∷◌, ◌++◌, length, Some, None, Ok, Err, Option, Result, ◌==◌}
+use Rattle.std.specs.Prelude.{ℕ, ◌+◌, Bool, cond, not, List, [], ◌∷◌, ◌++◌, length, Some, None, Ok, Err, Option, Result, ◌==◌}
+use Rattle.std.specs.List.{enumerate_from, position}
 use Rattle.cmac.specs.Cmac.{diversified}
 use Rattle.tdes.specs.Triples.{three_key}
 use Rattle.keyline.specs.Hex.{is_digit, bytes_at, hex_of}
@@ -10,10 +11,9 @@ use Rattle.keyline.specs.declared.line.LineFault.TheVariants.{Length, Character}
 abbrev pub fits : ℕ → ℕ → Bool
 fits place c = cond (place == 48) (c == 0x20) (is_digit c)
 
--- the first place, counted on from i, whose character may not stand there
-unfoldable pub misfit_from : ℕ → List ℕ → Option ℕ
-misfit_from i [] = None
-misfit_from i (c ∷ cs) = cond (fits i c) (misfit_from (i + 1) cs) (Some i)
+-- the first place, counted from 0, whose character may not stand there
+abbrev pub misfit : List ℕ → Option ℕ
+misfit line = position (λ placed. not (fits placed.0 placed.1)) (enumerate_from 0 line)
 
 -- a refusal by case: its number, and its value
 abbrev pub refusal : LineFault → ℕ × List ℕ
@@ -45,4 +45,4 @@ unless_misfit None answer = answer
 
 -- the answer to a line: its length is judged first, then its characters from the front
 abbrev pub derived_line : List ℕ → ℕ × List ℕ
-derived_line line = cond (length line == 81) (unless_misfit (misfit_from 0 line) (0, derived_text line)) (1, length line ∷ [])
+derived_line line = cond (length line == 81) (unless_misfit (misfit line) (0, derived_text line)) (1, length line ∷ [])

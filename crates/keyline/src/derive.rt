@@ -9,9 +9,6 @@ pub fn derive(master: &[u8; 24], id: &[u8; 16]) -> [u8; 16]
     ensures { result ≡ card_key master.now id.now }
 {
     let mut sheet = [0; 16];
-    match diversified_key(&ThreeKeyDes, master, id, &mut sheet) {
-        Ok(key) => key,
-        // 24 bytes are a key
-        Err(_) => unreachable(),
-    }
+    // 24 bytes are a key
+    diversified_key(&ThreeKeyDes, master, id, &mut sheet).unwrap()
 }

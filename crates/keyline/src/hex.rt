@@ -1,24 +1,17 @@
 //! Bytes as hexadecimal digits: read in either case, written in capitals.
+// The kit's crate for hexadecimal text answers a wrong digit with an error and writes capitals onto the heap; the digits of the
+// programs (`hex_digits`) are capitals only. Here a line is tested first, and read in either case into arrays.
 ghost use Rattle.std.specs.Prelude.{◌≡◌, ◌+◌, ◌*◌, ◌<◌, ◌≤◌, length};
-ghost use Rattle.keyline.specs.Hex.{is_digit as is_digit_of, value_of, byte_at as byte_at_of, bytes_at as bytes_at_of, capital, hex_of};
+ghost use Rattle.keyline.specs.Hex.{value_of, byte_at as byte_at_of, bytes_at as bytes_at_of, capital, capitals, hex_of};
 
-pub fn is_digit(c: u8) -> bool
-    ensures { result ≡ is_digit_of c }
-{
-    matches!(c, b'0'..=b'9' | b'A'..=b'F' | b'a'..=b'f')
-}
+use std::array;
 
 /// The number that a digit stands for, and 0 for what is no digit.
 fn value(c: u8) -> u8
     ensures value { result ≡ value_of c }
     ensures below { result < 16 }
 {
-    match c {
-        b'0'..=b'9' => c - b'0',
-        b'A'..=b'F' => c - b'A' + 10,
-        b'a'..=b'f' => c - b'a' + 10,
-        _ => 0,
-    }
+    char::from(c).to_digit(16).unwrap_or(0) as u8
 }
 
 /// The byte that the two digits from `at` on write.
@@ -34,11 +27,7 @@ pub fn bytes_at<const N: usize>(text: &[u8], at: usize) -> [u8; N]
     requires { at + 2 * N ≤ length text.now }
     ensures { result ≡ bytes_at_of N text.now at }
 {
-    let mut bytes = [0; N];
-    for i in 0..N {
-        bytes[i] = byte_at(text, at + 2 * i);
-    }
-    bytes
+    array::from_fn(|i| byte_at(text, at + 2 * i))
 }
 
 /// The capital digit of a number below sixteen.
@@ -46,7 +35,14 @@ fn digit(n: u8) -> u8
     requires { n < 16 }
     ensures { result ≡ capital n }
 {
-    if n < 10 { b'0' + n } else { b'A' + (n - 10) }
+    b"0123456789ABCDEF"[usize::from(n)]
+}
+
+/// The two capital digits of a byte.
+fn digits(byte: u8) -> [u8; 2]
+    ensures { result ≡ capitals byte }
+{
+    [digit(byte / 16), digit(byte % 16)]
 }
 
 /// Sixteen bytes as 32 digits.
@@ -54,9 +50,6 @@ pub fn hex16(bytes: &[u8; 16]) -> [u8; 32]
     ensures { result ≡ hex_of bytes.now }
 {
     let mut text = [0; 32];
-    for i in 0..16_usize {
-        text[2 * i] = digit(bytes[i] / 16);
-        text[2 * i + 1] = digit(bytes[i] % 16);
-    }
+    text.copy_from_slice(bytes.map(digits).as_flattened());
     text
 }

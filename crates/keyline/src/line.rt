@@ -37,8 +37,8 @@ fn join_fields(id: &[u8; 32], key: &[u8; 32]) -> [u8; 65]
     ensures { result ≡ text_of id.now key.now }
 {
     let mut text = [b' '; 65];
-    text[33..65].copy_from_slice(key);
-    text[0..32].copy_from_slice(id);
+    text[33..].copy_from_slice(key);
+    text[..32].copy_from_slice(id);
     text
 }
 

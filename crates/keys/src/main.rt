@@ -34,6 +34,7 @@ fn show_example(rt: &HostRuntime) -> io::Result<()> {
 }
 
 fn main(rt: HostRuntime) -> io::Result<()> {
+    // Counted beside the loop, since the number of lines is needed after it.
     let mut number: usize = 0;
     let mut refused: usize = 0;
     for line in BufReader::new(rt.alloc(), rt.stdin())?.split(rt.alloc(), b'\n') {

@@ -1,5 +1,5 @@
 -- Chained tags, for any block cipher E under a fixed key.
-use Rattle.std.specs.Prelude.{ℕ, List, [], ◌∷◌, reverse}
+use Rattle.std.specs.Prelude.{ℕ, List, fold, reverse}
 use Rattle.byte_arrays.specs.Blocks.{xored}
 
 -- a chain at v takes eight text bytes t, turned round, to this
@@ -7,9 +7,8 @@ abbrev pub chain_step : (List ℕ → List ℕ) → List ℕ → List ℕ → Li
 chain_step E v t = E (xored v (reverse t))
 
 -- the end of a chain at v over a text of groups of eight bytes
-unfoldable pub chained : (List ℕ → List ℕ) → List ℕ → List (List ℕ) → List ℕ
-chained E v [] = v
-chained E v (t ∷ ts) = chained E (chain_step E v t) ts
+abbrev pub chained : (List ℕ → List ℕ) → List ℕ → List (List ℕ) → List ℕ
+chained E v text = fold (chain_step E) v text
 
 -- the tag of a text: the end of its chain, turned round
 abbrev pub tagged : (List ℕ → List ℕ) → List ℕ → List (List ℕ) → List ℕ

@@ -1,27 +1,14 @@
 //! The chained tag of a text, for every cipher.
 ghost use Rattle.std.specs.Prelude.{◌≡◌, replicate};
 ghost use Rattle.cipher.specs.Keys.{answered, under_key};
-ghost use Rattle.mac.specs.Chain.{chain_step, tagged};
+ghost use Rattle.mac.specs.Chain.{tagged};
 
 use crate::reversal::turn_round;
 use byte_arrays::xor8;
 use cipher::{Cipher, KeyError};
 
-/// One step of a chain: eight text bytes, turned round, onto `v`.
-fn step<C: Cipher>(
-    cipher: &C,
-    key: &C::Key,
-    v: [u8; 8],
-    t: [u8; 8],
-    sheet: &mut [u64; 16],
-) -> [u8; 8]
-    ensures value { result ≡ chain_step (C.enciphered (C.key_bytes key.now)) v t }
-    ensures wiped { sheet.new ≡ replicate 16 0 }
-{
-    cipher.encrypt(key, xor8(v, &turn_round(t)), sheet)
-}
-
 /// The tag of a text of groups of eight bytes, from a start.
+// Cipher and key are two parameters, as callers have them; one that hands both on keeps them in a struct of its own.
 pub fn tag<C: Cipher>(
     cipher: &C,
     key: &C::Key,
@@ -36,8 +23,7 @@ pub fn tag<C: Cipher>(
     *sheet = [0; 16];
     let mut v = start;
     for t in text {
-        let next = step(cipher, key, v, *t, sheet);
-        v = next;
+        v = cipher.encrypt(key, xor8(v, &turn_round(*t)), sheet);
     }
     turn_round(v)
 }
@@ -50,7 +36,7 @@ pub fn tag_under<C: Cipher>(
     text: &[[u8; 8]],
     sheet: &mut [u64; 16],
 ) -> Result<[u8; 8], KeyError>
-    ensures answer { answered result ≡ under_key C.key_length key.now (tagged (C.enciphered key.now) start text.now) }
+    ensures answer { answered result ≡ under_key C.KEY_LEN key.now (tagged (C.enciphered key.now) start text.now) }
     ensures wiped { sheet.new ≡ replicate 16 0 }
 {
     let key = cipher.key(key, sheet)?;

@@ -29,7 +29,7 @@ pub fn session_keys<C: Cipher>(
     challenge: &[u8; 16],
     sheet: &mut [u64; 16],
 ) -> Result<SessionKeys, KeyError>
-    ensures answer { answered_as both_keys result ≡ under_key C.key_length card_key.now (session_keys C.enciphered card_key.now challenge.now) }
+    ensures answer { answered_as both_keys result ≡ under_key C.KEY_LEN card_key.now (session_keys C.enciphered card_key.now challenge.now) }
     ensures wiped { sheet.new ≡ replicate 16 0 }
 {
     let key = cipher.key(&turn_halves(card_key), sheet)?;

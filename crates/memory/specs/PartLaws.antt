@@ -1,8 +1,9 @@
 -- Laws of bytes as a row of parts: how many there are, what each is, and that a put changes one of them.
-use Rattle.std.specs.Prelude.{◌≡◌, ℕ, suc, ◌+◌, ◌*◌, ◌/◌, ◌<◌, ◌≤◌, ◌≢◌, ◌⊎◌, List, [], ◌++◌, length, get_or, take, drop, Some, None, slice_index_or, slice_set, refl}
-use Rattle.std.proofs.Common.{mul-le-mul_right, suc-mul, div-mul-le_self, arith, inl, inr, ⊎_elim, sym, ap, subst, ◌∙◌, rules}
+use Rattle.std.specs.Prelude.{◌≡◌, ℕ, zero, suc, ◌+◌, ◌*◌, ◌/◌, ◌<◌, ◌≤◌, ◌≢◌, ◌⊎◌, List, [], ◌∷◌, ◌++◌, map, length, get_or, take, drop, Some, None, slice_index_or, slice_set, refl}
+use Rattle.std.proofs.Common.{mul-le-mul_right, suc-mul, zero-mul, add-one, div-mul-le_self, arith, inl, inr, ⊎_elim, sym, ap, subst, ◌∙◌, rules}
 use borrow.Rule.Slice.PartMut.{put_mid}
-use Rattle.std.specs.List.{slice_get}
+use Rattle.std.specs.List.{slice_get, range_with_len}
+use Rattle.std.specs.Simd.{first_chunks}
 use Rattle.std.proofs.lemmas.List.FromFn.{length-map-range_with_len, get_or-map-range_with_len}
 use Rattle.std.proofs.lemmas.List.{ext_get_or, same_lists, places, set_past, length-set, length-take-le, length-drop, get_or-set_same, get_or-set_other, take_at, drop_at, drop-drop}
 use Rattle.std.proofs.lemmas.Option.{slice_get-get_or, slice_get_past}
@@ -23,6 +24,18 @@ nth_part size bytes n h =
 
 pub nth_no_part : (size : ℕ) (bytes : List ℕ) (n : ℕ) → length bytes / size ≤ n → slice_get (parts size bytes) n ≡ None
 nth_no_part size bytes n h = slice_get_past (parts size bytes) n (rw count_parts h)
+
+-- the library's chunks of a slice are its parts
+chunks_from : (size : ℕ) (bytes : List ℕ) (i k : ℕ) → first_chunks size k (drop (i * size) bytes) ≡ map (part size bytes) (range_with_len i k)
+chunks_from size bytes i zero = refl
+chunks_from size bytes i (suc k) =
+    let next : drop size (drop (i * size) bytes) ≡ drop ((i + 1) * size) bytes = drop-drop size (i * size) bytes ∙ ap (λ j. drop j bytes) (rw (add-one, suc-mul) refl) in
+    ap (λ rest. part size bytes i ∷ rest) (ap (first_chunks size k) next ∙ chunks_from size bytes (i + 1) k)
+
+pub chunks_are_parts : (size : ℕ) (bytes : List ℕ) → first_chunks size (length bytes / size) bytes ≡ parts size bytes
+unfolding parts
+chunks_are_parts size bytes =
+    ap (λ i. first_chunks size (length bytes / size) (drop i bytes)) (sym (zero-mul size)) ∙ chunks_from size bytes 0 (length bytes / size)
 
 -- a part that counts ends within the bytes
 pub part_ends : (size len n : ℕ) → n < len / size → n * size + size ≤ len

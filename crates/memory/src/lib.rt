@@ -7,8 +7,11 @@ ghost use Rattle.memory.specs.declared.cell.Cell.{Cell};
 ghost use Rattle.memory.specs.Answers.{answered, number_of, number_at};
 ghost use Rattle.memory.specs.Cells.{cells_written, cells_cut, SixteenBytes};
 
+pub mod byte_memory;
 pub mod cell;
 pub mod checked;
+pub mod kinds;
+pub mod layout;
 mod parts;
 pub mod plain;
 

@@ -1,11 +1,12 @@
 -- The packets of replies.
-use Rattle.std.specs.Prelude.{ℕ, ◌/◌, Bool, cond, List, [], ◌∷◌, ◌++◌, length, take, drop}
+use Rattle.std.specs.Prelude.{ℕ, ◌/◌, Bool, cond, List, [], ◌∷◌, ◌++◌, length, drop}
+use Rattle.std.specs.List.{flat_map}
 use Rattle.blocklist.specs.declared.fault.Flags.{Flags}
 use Rattle.reply.specs.declared.packet.Packet.{Packet}
 
 -- the bytes of a packet
 abbrev pub packet_in : Packet → List ℕ
-packet_in p = take p.length p.bytes
+packet_in p = p.held.items
 
 -- code, identity and the two flags: what every reply to a read or a write begins with
 abbrev pub status_packet : ℕ → List ℕ → Flags → List ℕ
@@ -16,9 +17,8 @@ abbrev pub polled_packet : List ℕ → Bool → List ℕ
 polled_packet d_id with_system = 0x01 ∷ (d_id ++ cond with_system (0x88 ∷ 0xB4 ∷ []) [])
 
 -- groups one after the other
-unfoldable pub joined : List (List ℕ) → List ℕ
-joined [] = []
-joined (g ∷ gs) = g ++ joined gs
+abbrev pub joined : List (List ℕ) → List ℕ
+joined groups = flat_map (λ group. group) groups
 
 -- the reply to a good read: no fault, the number of blocks, and the blocks, which are all of the text but its numbers
 abbrev pub shown_packet : List ℕ → List (List ℕ) → List ℕ

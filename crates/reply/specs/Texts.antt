@@ -1,5 +1,5 @@
 -- The texts that the tags of a reply are taken over, in groups of eight bytes.
-use Rattle.std.specs.Prelude.{ℕ, ◌%◌, cond, List, [], ◌∷◌, ◌++◌, length, take, drop, replicate, ◌==◌, nat_le, nat_lt, slice_index}
+use Rattle.std.specs.Prelude.{ℕ, ◌%◌, cond, List, [], ◌∷◌, ◌++◌, length, drop, replicate, ◌==◌, nat_le, nat_lt, slice_index}
 use Rattle.byte_arrays.specs.Blocks.{front_half, back_half}
 use Rattle.reply.specs.declared.text.Text.{Text}
 
@@ -17,11 +17,11 @@ lead_of ns = number_pair ns 0 ++ number_pair ns 1 ++ number_pair ns 2 ++ number_
 
 -- the text that is held: the numbers of the list, then the blocks sent so far
 abbrev pub text_in : Text → List (List ℕ)
-text_in t = take t.count t.groups
+text_in t = t.held.items
 
 -- one block more: there is room for four
 abbrev pub text_grown : Text → List ℕ → List (List ℕ)
-text_grown t block = cond (nat_le t.count 7) (text_in t ++ halved block) (text_in t)
+text_grown t block = cond (nat_le (length (text_in t)) 7) (text_in t ++ halved block) (text_in t)
 
 -- A tag of a text is given by T, what a block reads as by R.
 abbrev pub Tagger : Type 0

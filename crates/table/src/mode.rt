@@ -3,6 +3,7 @@ use crate::report::Report;
 use journal::Burn;
 
 /// Why an indicator is working.
+// Not an Option, though it has that shape: nothing is missing when power came up.
 #[derive(Clone, Copy)]
 pub enum Cause {
     /// power came up

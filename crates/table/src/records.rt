@@ -1,21 +1,11 @@
 //! The volatile records.
-ghost use Rattle.std.specs.Prelude.{◌≡◌, ◌<◌, [], ◌∷◌};
-ghost use Rattle.table.specs.Modes.{all_forgotten, blank, forgotten, no_keys, record_of};
+ghost use Rattle.std.specs.Prelude.{◌≡◌};
+ghost use Rattle.table.specs.Modes.{all_forgotten, blank, forgotten, record_of};
 
 use crate::record::Table;
 use blocks::Stage;
 use mac::session::SessionKeys;
 use volatile::{Session, Volatile};
-
-/// No session keys.
-fn no_keys() -> SessionKeys
-    ensures { result ≡ no_keys }
-{
-    SessionKeys {
-        first: [0; 8],
-        second: [0; 8],
-    }
-}
 
 /// A record when power first comes.
 pub fn blank() -> Volatile
@@ -25,7 +15,10 @@ pub fn blank() -> Volatile
         stage: Stage::Issuing,
         sound: false,
         session: Session::none(),
-        keys: no_keys(),
+        keys: SessionKeys {
+            first: [0; 8],
+            second: [0; 8],
+        },
     }
 }
 
@@ -36,8 +29,7 @@ fn forgotten(was: Volatile) -> Volatile
     Volatile {
         stage: was.stage,
         sound: was.sound,
-        session: Session::none(),
-        keys: no_keys(),
+        ..blank()
     }
 }
 
@@ -46,10 +38,7 @@ impl Table {
     pub fn record_of(&self, hopper: usize) -> Volatile
         ensures { result ≡ record_of self.now.records hopper }
     {
-        if hopper < 4 {
-            return self.records[hopper];
-        }
-        blank()
+        self.records.get(hopper).copied().unwrap_or(blank())
     }
 
     /// Without power all four hoppers forget.
@@ -57,12 +46,6 @@ impl Table {
         ensures records { self.new.records ≡ all_forgotten self.old.records }
         ensures mode { self.new.mode ≡ self.old.mode }
     {
-        let records = [
-            forgotten(self.record_of(0)),
-            forgotten(self.record_of(1)),
-            forgotten(self.record_of(2)),
-            forgotten(self.record_of(3)),
-        ];
-        self.records = records;
+        self.records = self.records.map(forgotten);
     }
 }

@@ -2,6 +2,7 @@
 
 /// The frames in reply memory and their bytes, the slot of each frame (0 beyond), and of a refusal its place and element (0 if
 /// there is none).
+// Place and element are numbers, as a card gives them: public fields, for which an option would take fewer.
 #[derive(Clone, Copy)]
 pub struct Report {
     pub frames: usize,

@@ -8,6 +8,7 @@ use frame::put_frame;
 use reply::Packet;
 
 /// How many frames lie at the start of reply memory, how many bytes they take, and the slot of each.
+// The slots are an array with 0 after the last, as they are reported; a bounded buffer would have to be filled up for that.
 #[derive(Clone, Copy)]
 pub struct Sending {
     pub frames: usize,
@@ -42,6 +43,7 @@ impl Sending {
     }
 
     /// What is reported of it, with the place and the element of a refusal.
+    // The fields stand in the report too: in both they are public.
     pub fn report(&self, place: u8, element: u8) -> Report
         ensures { (memory : List ℕ) → result ≡ report_of (sent_in memory self.now) place element }
     {

@@ -6,6 +6,7 @@ use crate::report::Report;
 
 /// A slip of plain numbers for a reply that is owed: how many frames lie in reply memory, and how many bytes they take. It
 /// is to stand beside the indicator, cannot be copied, and may be let go only once it is spent.
+// The project prescribes this form. An option around the numbers would lose what a spent slip was for.
 pub struct Slip {
     pub(crate) frames: usize,
     pub(crate) bytes: usize,

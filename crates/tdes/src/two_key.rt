@@ -2,16 +2,16 @@
 ghost use Rattle.tdes.specs.Triples.{two_key};
 ghost use Rattle.std.proofs.Common.{rules};
 
-use crate::words::word64_at;
-use byte_arrays::copied;
-use cipher::{Cipher, KeyError, Sheet};
+use crate::keys::Keys;
+use cipher::{Cipher, KeyError, key_bytes_of};
 use des::triple::triple_des;
 
+// The ciphers with two and with three keys are two types, each with one value. One generic type would make
+// these names aliases, which are no values; the key bytes, their making and the passes are shared.
 #[derive(Drop)]
 pub struct TwoKeyDes;
 
-#[derive(Drop)]
-pub struct TwoKeys([u8; KEY_BYTES]);
+pub type TwoKeys = Keys<KEY_BYTES>;
 
 const KEY_BYTES: usize = 16;
 
@@ -20,7 +20,7 @@ impl Cipher for TwoKeyDes {
 
     const KEY_LEN: usize = KEY_BYTES;
 
-    ghost key_length = { 16 };
+    ghost KEY_LEN = { 16 };
 
     ghost key_bytes = { λ k. k.0 };
 
@@ -30,22 +30,14 @@ impl Cipher for TwoKeyDes {
 
     ghost octets = { Prim.search rules };
 
-    fn key_size(&self) -> usize {
-        Self::KEY_LEN
-    }
-
     fn key(&self, bytes: &[u8], sheet: &mut [u64; 16]) -> Result<TwoKeys, KeyError> {
-        let own = copied::<KEY_BYTES>(bytes);
-        let _guard = Sheet(sheet);
-        match own {
-            Some(own) => Ok(TwoKeys(own)),
-            None => Err(KeyError::WrongLength),
-        }
+        let own = key_bytes_of::<KEY_BYTES>(bytes, sheet)?;
+        Ok(Keys(own))
     }
 
     fn encrypt(&self, key: &TwoKeys, block: [u8; 8], sheet: &mut [u64; 16]) -> [u8; 8] {
-        let k1 = word64_at(&key.0, 0);
-        let k2 = word64_at(&key.0, 8);
+        let k1 = key.des_key(0);
+        let k2 = key.des_key(8);
         triple_des(k1, k2, k1, u64::from_be_bytes(block), sheet).to_be_bytes()
     }
 }

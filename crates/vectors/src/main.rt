@@ -6,6 +6,7 @@ mod cases;
 mod drawn;
 mod published;
 mod random;
+mod results;
 mod text;
 
 use std::io;

@@ -27,10 +27,6 @@ impl Random {
     }
 
     pub fn bytes(&mut self, heap: Global, count: usize) -> Result<Vec<u8>, AllocError> {
-        let mut bytes = Vec::new(heap);
-        for _ in 0..count {
-            bytes.push(self.byte())?;
-        }
-        Ok(bytes)
+        (0..count).map(|_| self.byte()).collect(heap)
     }
 }

@@ -1,22 +1,16 @@
-//! Byte strings as hexadecimal text.
-use std::{fmt, io};
+//! Byte strings as fields of a line.
+use hex_digits::Hex;
+use std::fmt;
 
-/// Shown in capital digits; an empty string as a hyphen, so that no field of a line is empty.
+/// Shown in capital hexadecimal digits; an empty string as a hyphen, so that no field of a line is empty.
 #[derive(Drop)]
-pub struct Hex<'a>(pub &'a [u8]);
+pub struct Field<'a>(pub &'a [u8]);
 
-impl<'a> fmt::Display for Hex<'a> {
+impl<'a> fmt::Display for Field<'a> {
     fn fmt<W: fmt::Write>(&self, f: &mut fmt::Formatter<W>) -> fmt::Result {
         if self.0.is_empty() {
             return write!(f, "-");
         }
-        for byte in self.0 {
-            write!(f, "{byte:02X}")?;
-        }
-        Ok(())
+        write!(f, "{}", Hex(self.0))
     }
-}
-
-pub fn print_field(rt: &HostRuntime, bytes: &[u8]) -> io::Result<()> {
-    print!(rt; " {}", Hex(bytes))
 }

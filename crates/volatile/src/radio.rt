@@ -20,6 +20,7 @@ impl Radio {
     pub fn hears(self, command: Command) -> bool
         ensures { result ≡ hears self (asked command.entry) }
     {
+        // The project has the radio's own state matched together with the command heard.
         match (self, command) {
             (
                 Radio::Open | Radio::PollShut,

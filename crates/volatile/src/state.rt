@@ -21,36 +21,18 @@ impl Session {
     pub fn is_seeded(&self) -> bool
         ensures { result ≡ is_seeded self.now.rc }
     {
-        match self.rc {
-            Some(_) => true,
-            None => false,
-        }
+        self.rc.is_some()
     }
 
     /// STATE as it reads.
+    #[tactic(auto, unfolding(crate::specs::Sessions::state_block))]
     pub fn state_block(&self) -> [u8; 16]
         ensures { result ≡ state_block self.now }
     {
-        let authenticated = u8::from(self.authenticated);
-        let poll_shut = u8::from(self.radio.is_poll_shut());
-        [
-            authenticated,
-            0,
-            0,
-            0,
-            0,
-            0,
-            0,
-            0,
-            poll_shut,
-            0,
-            0,
-            0,
-            0,
-            0,
-            0,
-            0,
-        ]
+        let mut block = [0; 16];
+        block[0] = u8::from(self.authenticated);
+        block[8] = u8::from(self.radio.is_poll_shut());
+        block
     }
 
     /// STATE is written.

@@ -1,6 +1,6 @@
 //! Both kinds of memory on examples. What is the same for both is checked by one helper, for every block memory.
 use memory::BlockMemory;
-use memory::cell::{Cell, Outcome};
+use memory::cell::{Cell, MemoryError, Outcome};
 use memory::checked::Checked;
 use memory::plain::Plain;
 use std::alloc::{AllocError, Global};
@@ -12,22 +12,15 @@ fn zeros(heap: Global) -> Result<Vec<u8>, AllocError> {
     vec![in heap; 0; 40]
 }
 
-/// Whether the cell n is good with sixteen bytes of one value.
-fn holds<M: BlockMemory>(memory: &M, n: usize, value: u8) -> bool {
-    match memory.read(n) {
-        Ok(Cell::Good(block)) => block == [value; 16],
-        _ => false,
-    }
-}
-
-fn is_torn<M: BlockMemory>(memory: &M, n: usize) -> bool {
-    matches!(memory.read(n), Ok(Cell::Torn))
+/// What a read answers of a good cell with sixteen bytes of one value.
+fn good(value: u8) -> Result<Cell, MemoryError> {
+    Ok(Cell::Good([value; 16]))
 }
 
 fn check_reads_back<M: BlockMemory>(rt: &impl Abort, kind: &str, memory: &mut M) {
     assert!(rt; memory.write(1, &[7; 16]).is_ok(), "{kind}");
-    assert!(rt; holds(memory, 0, 0), "{kind}");
-    assert!(rt; holds(memory, 1, 7), "{kind}");
+    assert_eq!(rt; memory.read(0), good(0), "{kind}");
+    assert_eq!(rt; memory.read(1), good(7), "{kind}");
 }
 
 #[test]
@@ -54,18 +47,18 @@ fn check_outcomes<M: BlockMemory>(rt: &impl Abort, kind: &str, memory: &mut M) {
         memory.cut_write(1, &[7; 16], Outcome::New).is_ok(),
         "{kind}"
     );
-    assert!(rt; holds(memory, 1, 7), "{kind}");
+    assert_eq!(rt; memory.read(1), good(7), "{kind}");
     assert!(rt;
         memory.cut_write(1, &[9; 16], Outcome::Old).is_ok(),
         "{kind}"
     );
-    assert!(rt; holds(memory, 1, 7), "{kind}");
+    assert_eq!(rt; memory.read(1), good(7), "{kind}");
     assert!(rt;
         memory.cut_write(1, &[9; 16], Outcome::Torn).is_ok(),
         "{kind}"
     );
-    assert!(rt; is_torn(memory, 1), "{kind}");
-    assert!(rt; holds(memory, 0, 0), "{kind}");
+    assert_eq!(rt; memory.read(1), Ok(Cell::Torn), "{kind}");
+    assert_eq!(rt; memory.read(0), good(0), "{kind}");
 }
 
 #[test]

@@ -6,8 +6,8 @@ ghost use Rattle.byte_arrays.specs.Words.{word32};
 ghost use Rattle.xtea.specs.Xtea.{half_cycle, cycles, xtea as xtea_of};
 ghost use Rattle.std.proofs.Common.{rules};
 
-use byte_arrays::copied;
-use cipher::{Cipher, KeyError, Sheet};
+use byte_arrays::joined;
+use cipher::{Cipher, KeyError, Sheet, key_bytes_of};
 
 #[derive(Drop)]
 pub struct Xtea;
@@ -17,14 +17,17 @@ pub struct XteaKey([u8; KEY_BYTES]);
 
 const KEY_BYTES: usize = 16;
 
+const CYCLES: u32 = 32;
+
 const DELTA: u32 = 0x9e37_79b9;
 
 /// The number that the four bytes from `at` on write.
+// Triple DES has its like at eight bytes: `from_be_bytes` belongs to each type of number and to no trait, so they are two.
 fn word32_at(bytes: &[u8], at: usize) -> u32
     requires { at + 4 ≤ length bytes.now }
     ensures { result ≡ word32 bytes.now at }
 {
-    u32::from_be_bytes([bytes[at], bytes[at + 1], bytes[at + 2], bytes[at + 3]])
+    u32::from_be_bytes(bytes[at..at + 4].try_into().unwrap())
 }
 
 /// What half a cycle makes of the word `v`, where `w` is the other word.
@@ -34,18 +37,15 @@ fn half(v: u32, w: u32, key: u32, sum: u32) -> u32
     v.wrapping_add(((w << 4) ^ (w >> 5)).wrapping_add(w) ^ sum.wrapping_add(key))
 }
 
-fn joined(a: u32, b: u32) -> u64
-    ensures { result ≡ a * 2 ^ 32 + b }
-{
-    (a as u64) * 0x1_0000_0000 + b as u64
-}
-
+/// Both words after all cycles, as one number.
+#[tactic(auto, using(crate::proofs::Cycles::cycles_more, crate::proofs::Cycles::cycles_none))]
 fn run(keys: &[u32; 4], mut a: u32, mut b: u32) -> u64
     ensures { result ≡ cycles keys.now 32 0 a b }
 {
     let mut sum: u32 = 0;
-    for i in 0..32_usize {
-        a = half(a, b, keys[(sum % 4) as usize], sum);
+    for _ in 0..CYCLES {
+        // casts to an index: the library has no `From` for them
+        a = half(a, b, keys[sum as usize % 4], sum);
         sum = sum.wrapping_add(DELTA);
         b = half(b, a, keys[(sum >> 11) as usize % 4], sum);
     }
@@ -57,7 +57,7 @@ impl Cipher for Xtea {
 
     const KEY_LEN: usize = KEY_BYTES;
 
-    ghost key_length = { 16 };
+    ghost KEY_LEN = { 16 };
 
     ghost key_bytes = { λ k. k.0 };
 
@@ -67,22 +67,15 @@ impl Cipher for Xtea {
 
     ghost octets = { Prim.search rules };
 
-    fn key_size(&self) -> usize {
-        Self::KEY_LEN
-    }
-
     fn key(&self, bytes: &[u8], sheet: &mut [u64; 16]) -> Result<XteaKey, KeyError> {
-        let own = copied::<KEY_BYTES>(bytes);
-        let _guard = Sheet(sheet);
-        match own {
-            Some(own) => Ok(XteaKey(own)),
-            None => Err(KeyError::WrongLength),
-        }
+        let own = key_bytes_of::<KEY_BYTES>(bytes, sheet)?;
+        Ok(XteaKey(own))
     }
 
     fn encrypt(&self, key: &XteaKey, block: [u8; 8], sheet: &mut [u64; 16]) -> [u8; 8] {
         let _guard = Sheet(sheet);
         let k = &key.0;
+        // Tried as `[0, 4, 8, 12].map(..)`: the proof did not close.
         let keys = [
             word32_at(k, 0),
             word32_at(k, 4),

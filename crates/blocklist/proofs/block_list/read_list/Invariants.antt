@@ -1,11 +1,12 @@
-use Rattle.std.proofs.Common.{◌≡◌, ◌+◌, ◌-◌, ◌≤◌, length, drop}
+use Rattle.std.proofs.Common.{◌≡◌, ◌+◌, length}
+use Rattle.std.specs.Iterator.Adapters.{take_source, take_count}
 use Rattle.blocklist.specs.Lists.{list_read}
 use Rattle.blocklist.proofs.block_list.read_list.Given as goal
 
--- what is left of the list gives the rest of the answer
-abbrev pub invariant-loop-elements : goal.invariant-loop-elements
-invariant-loop-elements l = (l.taken ≤ length l.bytes)
-    × ((l.elements + (list_read (l.count - l.elements) (drop l.taken l.bytes)).0)
-    ≡ (list_read l.count l.bytes).0)
-    × ((l.taken + (list_read (l.count - l.elements) (drop l.taken l.bytes)).1)
-    ≡ (list_read l.count l.bytes).1)
+-- what is read of the rest completes the answer
+abbrev pub invariant-loop-width : goal.invariant-loop-width
+invariant-loop-width l =
+    (l.read + take_count l.width-iterator ≡ l.count)
+    × (l.taken + length (take_source l.width-iterator).rest.now ≡ length l.bytes)
+    × (l.read + (list_read (take_count l.width-iterator) (take_source l.width-iterator).rest.now).0 ≡ (list_read l.count l.bytes).0)
+    × (l.taken + (list_read (take_count l.width-iterator) (take_source l.width-iterator).rest.now).1 ≡ (list_read l.count l.bytes).1)

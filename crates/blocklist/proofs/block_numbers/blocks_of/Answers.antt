@@ -1,34 +1,40 @@
-use Rattle.std.proofs.Common.{ℕ, ◌+◌, ◌-◌, drop, Ok, Err, sym, ap, ◌∙◌, arith}
+use Rattle.std.proofs.Common.{ℕ, ◌≡◌, ◌+◌, ◌-◌, List, [], ◌∷◌, ◌++◌, Err, ⊎_elim, sym, ap, ◌∙◌, arith, length-append}
+use Rattle.std.proofs.lemmas.Bool.Decides.{nat_tests}
 use Rattle.std.proofs.lemmas.Result.{err_from_is_err_and}
+use Rattle.std.specs.Iterator.Adapters.{zip_first, zip_second}
 use Rattle.blocklist.specs.declared.fault.Fault.{Fault}
-use Rattle.blocklist.specs.Elements.{first_named, numbers_in, numbers_or_fault}
+use Rattle.blocklist.specs.Elements.{named, numbers_or_fault}
 use Rattle.blocklist.proofs.Naming.{names_end, names_stop, names_more, names_fault}
 use Rattle.blocklist.proofs.block_numbers.blocks_of.Goals as goal
 
-pub returns-in_err-block : goal.returns-in_err-block
-returns-in_err-block c =
-    let index : ℕ = c.loop-index.index in
+pub returns-in_err-checked : goal.returns-in_err-checked
+returns-in_err-checked c =
+    let index : ℕ = (zip_first c.loop-index.index-iterator).start in
+    let rest : List ℕ = (zip_second c.loop-index.index-iterator).rest.now in
     let p = err_from_is_err_and c.from_residual.result c.from_residual.ensures.1 in
-    let h = c.in_err-block.ensures ∙ ap (first_named index) c.tail.ensures in
-    let f = names_fault (numbers_in c.loop-index.found) c.args.list.now index (4 - index) (4 - (index + 1)) c.loop-index.taken _ (omega arith) h in
-    ap numbers_or_fault p.1 ∙ ap (λ (x : Fault). numbers_or_fault (Err x)) p.2 ∙ sym f ∙ c.loop-index.invariant.2
-
-pub returns-in-None : goal.returns-in-None
-returns-in-None c =
-    let index : ℕ = c.loop-index.index in
-    let h = ap Ok (sym c.in-None.is) ∙ c.in_ok-block.ensures ∙ ap (first_named index) c.tail.ensures in
-    sym (names_stop (numbers_in c.loop-index.found) (drop c.loop-index.taken c.args.list.now) index (4 - index) h)
-    ∙ c.loop-index.invariant.2
+    let s = c.in-Some.ensures.steps in
+    let e = c.in_err-checked.ensures ∙ ap (λ (i : ℕ). named i c.in-Some.element) s.0.1.1 in
+    let f = names_fault c.loop-index.found.items rest _ index (4 - index) (4 - (index + 1)) c.in-Some.element c.in-Some.field-0-1-1 _ (omega arith) s.1.0 s.1.1 e in
+    ap numbers_or_fault p.1 ∙ ap (λ (x : Fault). numbers_or_fault (Err x)) p.2 ∙ sym f ∙ c.loop-index.invariant.3
 
 pub loop-index-preserved : goal.loop-index-preserved
 loop-index-preserved c =
-    let index : ℕ = c.loop-index.index in
-    let h = ap Ok (sym c.in-Some.is) ∙ c.in_ok-block.ensures ∙ ap (first_named index) c.tail.ensures in
-    let m = names_more (numbers_in c.loop-index.found) c.args.list.now index (4 - index) (4 - (index + 1)) c.loop-index.taken c.in-Some.block c.in-Some.width (omega arith) (omega arith) h in
-    (m.within, omega arith, rw c.push.ensures.numbers (sym m.rest ∙ c.loop-index.invariant.2))
+    let index : ℕ = (zip_first c.loop-index.index-iterator).start in
+    let rest : List ℕ = (zip_second c.loop-index.index-iterator).rest.now in
+    let block : ℕ = c.in_ok-checked.field-0 in
+    let s = c.in-Some.ensures.steps in
+    let n : (zip_first c.next.new.self).start ≡ index + 1 = s.0.1.2 in
+    let e = c.in_ok-checked.ensures ∙ ap (λ (i : ℕ). named i c.in-Some.element) s.0.1.1 in
+    let f = names_more c.loop-index.found.items rest _ index (4 - index) (4 - (index + 1)) c.in-Some.element c.in-Some.field-0-1-1 block (omega arith) s.1.0 s.1.1 e in
+    let p : c.push.new.self.items ≡ c.loop-index.found.items ++ block ∷ [] = grind (arith, nat_tests) in
+    (s.0.0 ∙ c.loop-index.invariant.0, omega arith, rw p (omega (arith, length-append c.loop-index.found.items (block ∷ []))), rw (p, n) (sym f ∙ c.loop-index.invariant.3))
 
 pub returns : goal.returns
 returns c =
-    let index : ℕ = c.loop-index.index in
-    sym (names_end (numbers_in c.loop-index.found) (drop c.loop-index.taken c.args.list.now) index (4 - index) (omega arith))
-    ∙ c.loop-index.invariant.2
+    let index : ℕ = (zip_first c.loop-index.index-iterator).start in
+    let rest : List ℕ = (zip_second c.loop-index.index-iterator).rest.now in
+    sym (⊎_elim
+    (λ s. names_end c.loop-index.found.items rest index (4 - index) (omega arith))
+    (λ s. names_stop c.loop-index.found.items rest index (4 - index) s.1.0)
+    c.in-None.ensures.steps)
+    ∙ c.loop-index.invariant.3

@@ -1,10 +1,11 @@
-use Rattle.std.proofs.Common.{sym, ◌∙◌, arith, length-set}
-use Rattle.byte_arrays.proofs.Xors.{xored_more, xored_all}
+use Rattle.std.proofs.Common.{rules, ◌∙◌, sym, bit_xor, arith}
+use Rattle.std.proofs.lemmas.Grind.{same_number_lists}
+use Rattle.std.proofs.lemmas.Simd.{length-zip2, get_or-zip2}
 use Rattle.byte_arrays.proofs.blocks.xor8.Goals as goal
 
-pub loop-i-preserved : goal.loop-i-preserved
-loop-i-preserved c =
-    (xored_more c.loop-i.a c.args.b.now c.loop-i.i c.xor_at.result (omega arith) (omega arith) c.xor_at.ensures ∙ c.loop-i.invariant.0, simp length-set c.loop-i.invariant.1)
-
 pub returns : goal.returns
-returns c = sym (xored_all c.loop-i.a c.args.b.now c.loop-i.i (omega arith)) ∙ c.loop-i.invariant.0
+returns c =
+    let made = c.from_fn.ensures.items in
+    same_number_lists _ _ (made.long ∙ sym (length-zip2 bit_xor c.args.a c.args.b.now (search rules) ∙ search rules)) (λ i h.
+    let call = made.at i 0 (omega (arith, made.long)) in
+    search (rules, get_or-zip2))

@@ -1,10 +1,12 @@
-use Rattle.std.proofs.Common.{sym, ◌∙◌, arith, length-set}
-use Rattle.keyline.proofs.Digits.{hex_more, hex_all}
+use Rattle.std.proofs.Common.{ap, ◌∙◌, rules}
+use Rattle.std.proofs.lemmas.List.Folds.{flat_map-map}
+use Rattle.std.specs.List.{flat_map}
+use Rattle.keyline.specs.Hex.{capitals, hex_of}
+use Rattle.keyline.proofs.Calls.{map_same}
 use Rattle.keyline.proofs.hex.hex16.Goals as goal
 
-pub loop-i-preserved : goal.loop-i-preserved
-loop-i-preserved c =
-    (hex_more c.loop-i.i c.digit.result c.digit-in-loop-i.result c.args.bytes.now c.loop-i.text (omega arith) (omega arith) c.digit.ensures c.digit-in-loop-i.ensures ∙ c.loop-i.invariant.0, simp length-set c.loop-i.invariant.1)
-
 pub returns : goal.returns
-returns c = sym (hex_all c.loop-i.i c.args.bytes.now c.loop-i.text (omega arith) (omega arith)) ∙ c.loop-i.invariant.0
+unfolding hex_of
+returns c =
+    let pairs = map_same capitals 0 c.map.ensures.items c.told-bytes (λ p x y q call. search rules) in
+    c.copy_from_slice.ensures.after ∙ c.as_flattened.ensures.value ∙ ap (flat_map (λ x. x)) pairs ∙ flat_map-map (λ x. x) capitals c.args.bytes.now

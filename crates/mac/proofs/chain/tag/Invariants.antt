@@ -1,10 +1,10 @@
-use Rattle.std.proofs.Common.{◌≡◌, drop, replicate}
+use Rattle.std.proofs.Common.{◌≡◌, take, replicate}
 use Rattle.mac.specs.Chain.{chained}
 use Rattle.mac.proofs.chain.tag.Given as goal
 
--- the groups that are left give the end of the chain, and the sheet is clear
+-- the groups so far have brought the chain here, and the sheet is clear
 abbrev pub invariant-loop-t : goal.invariant-loop-t
 invariant-loop-t g l =
     let m = g.C.Cipher in
-    let E = m.enciphered (m.key_bytes l.key) in
-    (chained E l.v (drop l.t-index l.text) ≡ chained E l.initial.v l.text) × (l.sheet ≡ replicate 16 0)
+    let E = m.enciphered (m.key_bytes l.fn.key) in
+    record { value : l.v ≡ chained E l.initial.v (take l.t-index l.text); wiped : l.sheet ≡ replicate 16 0 }

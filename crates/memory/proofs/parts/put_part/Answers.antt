@@ -1,25 +1,16 @@
--- Overwriting the slice from where the part begins is a put, and past the last part a put changes nothing.
-use Rattle.std.proofs.Common.{length, sym, ap, ◌∙◌, arith}
-use Rattle.std.proofs.lemmas.Result.{err_from_is_err_and}
-use Rattle.memory.specs.Answers.{error_number}
-use Rattle.memory.specs.PartLaws.{put_past, overwritten_is_put}
+-- A part that is there ends within the bytes, and overwriting it is a put; past the last part a put changes nothing.
+use Rattle.std.proofs.Common.{arith}
+use Rattle.memory.specs.PartLaws.{put_past, overwritten_is_put, part_ends}
 use Rattle.memory.proofs.parts.put_part.Goals as goal
 
-pub returns-in_err-start : goal.returns-in_err-start
-returns-in_err-start c =
-    let p = err_from_is_err_and c.from_residual.result c.from_residual.ensures.1 in
-    let met = c.in_err-start.ensures in
-    rw p.1 (record {
-      after = sym (put_past (length c.args.new.now) c.args.bytes.now c.args.n c.args.new.now met.start);
-      number = ap error_number p.2 ∙ met.number;
-    })
+pub returns-then-n-bytes-clause-after : goal.returns-then-n-bytes-clause-after
+returns-then-n-bytes-clause-after g c = grind (arith, put_past)
 
-pub returns : goal.returns
-returns c =
-    let met = c.in_ok-start.ensures in
-    record {
-      after =
-          overwritten_is_put (length c.args.new.now) c.args.bytes.now c.args.n c.args.new.now _ _ _
-          met.start.0 (omega arith) c.copy_from_slice.ensures.after met.start.1;
-      number = met.number;
-    }
+pub overflow_mul-start : goal.overflow_mul-start
+overflow_mul-start g c = grind (arith, part_ends)
+
+pub overflow_add-start : goal.overflow_add-start
+overflow_add-start g c = grind (arith, part_ends)
+
+pub returns-clause-after : goal.returns-clause-after
+returns-clause-after g c = grind (arith, overwritten_is_put)

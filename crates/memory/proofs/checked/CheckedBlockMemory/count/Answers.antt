@@ -1,8 +1,0 @@
--- There are as many cells as whole parts.
-use Rattle.std.proofs.Common.{rules}
-use Rattle.memory.specs.Layouts.{checked}
-use Rattle.memory.specs.CellLaws.{count_cells}
-use Rattle.memory.proofs.checked.CheckedBlockMemory.count.Goals as goal
-
-pub returns : goal.returns
-returns c = search (rules, count_cells checked)

@@ -1,9 +1,0 @@
--- A good cell that is put in the place of the part n changes the cell n and no other.
-use Rattle.std.proofs.Common.{rules}
-use Rattle.std.proofs.lemmas.List.{with_items_is}
-use Rattle.memory.specs.Layouts.{plain}
-use Rattle.memory.specs.CellLaws.{write_cell, number_same, plain_lawful}
-use Rattle.memory.proofs.plain.PlainBlockMemory.write.Goals as goal
-
-pub returns : goal.returns
-returns c = search (rules, with_items_is, write_cell plain plain_lawful, number_same plain)
