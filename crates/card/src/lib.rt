@@ -2,6 +2,7 @@
 #![tactic(auto)]
 
 mod card;
+mod order;
 mod outcome;
 mod reaction;
 mod read;

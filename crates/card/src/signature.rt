@@ -5,6 +5,7 @@ ghost use Rattle.mac.specs.Chain.{tagged};
 ghost use Rattle.std.specs.Prelude.{◌≡◌};
 
 use crate::card::Card;
+use crate::order::Order;
 use byte_arrays::{halves, join, same8};
 use cipher::Cipher;
 use hopper::view;
@@ -85,17 +86,16 @@ impl<'a, C: Cipher> Card<'a, C> {
     pub(crate) fn verdict(
         &self,
         volatile: &Volatile,
-        block: u16,
-        sent: &[u8; 16],
+        order: &Order,
         mac: &[u8; 16],
         sheet: &mut [u64; 16],
     ) -> bool
-        ensures { result ≡ verdict C.enciphered self.now.cells.now volatile.now block sent.now mac.now }
+        ensures { result ≡ verdict C.enciphered self.now.cells.now volatile.now order.now.block order.now.sent mac.now }
     {
         let counter = view(self.cells, volatile).counter;
         let (tag, _) = halves(mac);
         let tagging = self.tagging(volatile, &write_key(&volatile.keys), sheet);
-        let right = tagging.tag(&signed_text(counter, block, sent), sheet);
+        let right = tagging.tag(&signed_text(counter, order.block, &order.sent), sheet);
         // `==` under the name that the definition of the verdict has: callers need not open it, which keeps their proofs short.
         same8(&tag, &right)
     }

@@ -8,6 +8,7 @@ ghost use Rattle.std.specs.Result.{result_map_both};
 ghost use Rattle.std.specs.Prelude.{◌≡◌, []};
 
 use crate::card::Card;
+use crate::order::Order;
 use crate::outcome::Outcome;
 use blocklist::{BLOCK_PLACE, Fault, HEADER_PLACE, Refusal};
 use blocks::{CARD_KEY_CELL, three_byte_number};
@@ -38,20 +39,13 @@ fn plan(view: &View, service: u16, list: &[u8], mac: Option<[u8; 16]>) -> Result
     Ok(view.plan_write(service, list, counter_of(mac))?)
 }
 
-/// What a write comes down to: the reply's identity, the block and its data.
-#[derive(Clone, Copy)]
-struct Order {
-    identity: [u8; 8],
-    block: u16,
-    sent: [u8; 16],
-}
-
 impl<C: Cipher> Card<'_, C> {
     /// The volatile record after an accepted write: RC with new session keys, or STATE.
-    fn keep(&self, volatile: &mut Volatile, block: u16, sent: &[u8; 16], sheet: &mut [u64; 16])
-        ensures { volatile.new ≡ kept_after C.enciphered self.now.cells.now volatile.old block sent.now }
+    fn keep(&self, volatile: &mut Volatile, order: &Order, sheet: &mut [u64; 16])
+        ensures { volatile.new ≡ kept_after C.enciphered self.now.cells.now volatile.old order.now.block order.now.sent }
     {
-        match block {
+        let sent = &order.sent;
+        match order.block {
             0x80 => {
                 let card_key = held(self.cells, CARD_KEY_CELL);
                 // a cipher with keys of sixteen bytes refuses none
@@ -68,7 +62,7 @@ impl<C: Cipher> Card<'_, C> {
         ensures { done result volatile.new ≡ done_by (accepted C.enciphered self.now.cells.now volatile.old order.identity order.block order.sent []) }
     {
         let state = view(self.cells, volatile);
-        self.keep(volatile, order.block, &order.sent, sheet);
+        self.keep(volatile, &order, sheet);
         let flags = accepted_flags(&state, order.block);
         let reply = Packet::status(WRITE_REPLY, &order.identity, flags);
         Outcome::served(reply, stored(&state, order.block, &order.sent))
@@ -84,7 +78,7 @@ impl<C: Cipher> Card<'_, C> {
     ) -> Outcome
         ensures { done result volatile.new ≡ done_by (judged_write C.enciphered self.now.cells.now volatile.old order.identity order.block order.sent (verdict C.enciphered self.now.cells.now volatile.old order.block order.sent mac.now)) }
     {
-        if self.verdict(volatile, order.block, &order.sent, mac, sheet) {
+        if self.verdict(volatile, &order, mac, sheet) {
             return self.accept(volatile, order, sheet);
         }
         let fault = Fault::at_element(BLOCK_PLACE, 1, 0xB2);

@@ -108,10 +108,9 @@ fn outcome_of<C: Cipher>(
     sheet: &mut [u64; 16],
 ) -> Option<Outcome> {
     let command = Command::parse(question.packet);
-    let reply = poll(&question.volatile, &held(&question.cells, 16), command);
-    if reply.is_some() {
+    if let Some(reply) = poll(&question.volatile, &held(&question.cells, 16), command) {
         return Some(Outcome {
-            reply,
+            reply: Some(reply),
             place: 0,
             element: 0,
             write: None,

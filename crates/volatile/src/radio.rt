@@ -46,11 +46,7 @@ impl Radio {
     pub fn is_poll_shut(self) -> bool
         ensures { result ≡ is_poll_shut self }
     {
-        match self {
-            Radio::Open => false,
-            Radio::PollShut => true,
-            Radio::Deaf { poll_shut } => poll_shut,
-        }
+        matches!(self, Radio::PollShut | Radio::Deaf { poll_shut: true })
     }
 
     /// The radio after STATE is written. Deafness stays.

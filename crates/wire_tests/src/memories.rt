@@ -23,6 +23,8 @@ fn check_reads_back<M: BlockMemory>(rt: &impl Abort, kind: &str, memory: &mut M)
     assert_eq!(rt; memory.read(1), good(7), "{kind}");
 }
 
+// Each test calls its check twice: a closure cannot take memories of both types.
+
 #[test]
 fn a_written_cell_reads_back(rt: HostRuntime) -> Result<(), Fail> {
     check_reads_back(
