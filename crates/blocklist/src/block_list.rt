@@ -11,7 +11,7 @@ pub fn read_list(bytes: &[u8], count: u8) -> (u8, usize)
     ensures value { result ≡ list_read count bytes.now }
     ensures within { result.1 ≤ length bytes.now }
 {
-    // A fold would make both sums, but it was not proved of its closure that they fit.
+    // Tried as a fold, which would make both sums: it was not proved of its closure that they fit.
     let mut read = 0;
     let mut taken = 0;
     for (_, width) in Elements::of(bytes).take(usize::from(count)) {

@@ -3,7 +3,7 @@ ghost use Rattle.blocklist.specs.Faults.{at_element, of_command, fault_told, tol
 ghost use Rattle.std.specs.Prelude.{◌≡◌};
 
 /// The two status bytes of an error reply.
-// Bytes of the wire, written where they are sent as the table of refusals has them; a name for each would hide that.
+// Bytes of the wire, written at each test as the table of refusals has them; a name for each would hide that.
 #[derive(Clone, Copy)]
 pub struct Flags {
     pub sf1: u8,

@@ -60,7 +60,8 @@ pub fn ceiling(stage: Stage) -> u32
     }
 }
 
-// Stage and configuration are two parameters: the stage last fixed need not be the one that the configuration sets.
+// Stage and configuration are two parameters: the stage last fixed need not be the one that the configuration sets, so public
+// functions take any of the one with any of the other, and a struct of both would be no plainer.
 impl Config {
     /// Whether an accepted write to a block raises the counter.
     pub fn counts(&self, block: u16) -> bool

@@ -31,6 +31,7 @@ pub fn halves(bytes: &[u8; 16]) -> ([u8; 8], [u8; 8])
 }
 
 /// Whether two blocks are the same.
+// `==` under the name that the definition of a verdict has, which callers need not open.
 #[tactic(auto, unfolding(crate::specs::Equality::same_bytes))]
 pub fn same8(a: &[u8; 8], b: &[u8; 8]) -> bool
     ensures { result ≡ same_bytes a.now b.now }

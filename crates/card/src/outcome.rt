@@ -9,7 +9,7 @@ use hopper::BlockWrite;
 use reply::Packet;
 
 /// A reply or none; of a refusal its place and element, 0 if there is none; a write for the journal or none.
-// Place and element are numbers, 0 for none, as the caller gets them: public fields, for which an option would take fewer.
+// Place and element are numbers, 0 for none, as the caller gets them: public fields take any byte, and an enum would take fewer.
 #[derive(Clone, Copy)]
 pub struct Outcome {
     pub reply: Option<Packet>,
@@ -20,6 +20,7 @@ pub struct Outcome {
 
 impl Outcome {
     /// A refusal: an error reply to a command of that reply code, or silence.
+    // The code is a byte of the wire, as `Packet::status` takes it.
     pub(crate) fn refused(code: u8, identity: &[u8; 8], refusal: Refusal) -> Outcome
         ensures { outcome result ≡ refused_outcome code identity.now (told refusal) }
     {

@@ -41,7 +41,7 @@ fn mask(k1: &[u8; 8], k2: &[u8; 8], part: &[u8]) -> [u8; 8]
 }
 
 /// Cipher block chaining over blocks, from a block of zeros.
-// Cipher and key are two parameters here too: they are handed on once.
+// Cipher and key are two parameters here too: a struct of both would be made for the call only.
 fn cbc<C: Cipher>(cipher: &C, key: &C::Key, blocks: &[[u8; 8]], sheet: &mut [u64; 16]) -> [u8; 8]
     ensures value { result ≡ chained (C.enciphered (C.key_bytes key.now)) (replicate 8 0) blocks.now }
     ensures wiped { sheet.new ≡ replicate 16 0 }

@@ -12,6 +12,7 @@ use byte_arrays::joined;
 fn mix(r: u32, key: u64) -> u32
     ensures { result ≡ cipher_function r key }
 {
+    // The cast is proved to lose nothing: the table picks 32 bits.
     PERMUTATION.pick(substitute(EXPANSION.pick(r.into()) ^ key).into()) as u32
 }
 
@@ -42,7 +43,7 @@ fn run_keys(keys: &[u64; 16], x: u64) -> u64
     FINAL.pick(run_rounds((y >> 32) as u32, (y % 0x1_0000_0000) as u32, keys))
 }
 
-// Encryption and decryption are two functions: one would take a flag for the direction, and be no shorter.
+// Encryption and decryption are two functions: one would take a flag for the direction, and its contract would have two cases.
 
 /// Encryption of a block. The round keys stay in the sheet: its guard wipes them.
 pub fn run_forward(key: u64, x: u64, sheet: &mut [u64; 16]) -> u64

@@ -8,7 +8,7 @@ use byte_arrays::xor8;
 use cipher::{Cipher, KeyError};
 
 /// The tag of a text of groups of eight bytes, from a start.
-// Cipher and key are two parameters, as callers have them; one that hands both on keeps them in a struct of its own.
+// Cipher and key are two parameters, as callers have them: a struct of both would be made for the call only.
 pub fn tag<C: Cipher>(
     cipher: &C,
     key: &C::Key,

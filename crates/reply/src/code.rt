@@ -1,4 +1,5 @@
-//! The codes that replies begin with. They are bytes of the wire: an enum would only be turned back into them.
+//! The codes that replies begin with.
+// Bytes of the wire: an enum would only be turned back into them, and `Packet::status`, which is public, takes any byte.
 
 /// The code of replies to polling.
 pub(crate) const POLLING_REPLY: u8 = 0x01;

@@ -8,6 +8,7 @@ pub struct Keys<const N: usize>(pub(crate) [u8; N]);
 
 impl<const N: usize> Keys<N> {
     /// The DES key of the eight bytes from `at` on, as a number with the high byte first.
+    // XTEA has its like at four bytes: `from_be_bytes` belongs to each type of number and to no trait, so they are two.
     pub(crate) fn des_key(&self, at: usize) -> u64
         requires { at + 8 ≤ N }
         ensures { result ≡ word64 self.now.0 at }

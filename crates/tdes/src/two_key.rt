@@ -6,8 +6,8 @@ use crate::keys::Keys;
 use cipher::{Cipher, KeyError, key_bytes_of};
 use des::triple::triple_des;
 
-// The ciphers with two and with three keys are two types, each with one value. One generic type would make
-// these names aliases, which are no values; the key bytes, their making and the passes are shared.
+// Tried as one generic type with that of three keys: these names would be aliases, and an alias is no value.
+// The key bytes, their making and the passes are shared.
 #[derive(Drop)]
 pub struct TwoKeyDes;
 
