@@ -6,5 +6,6 @@ ghost use Rattle.byte_arrays.specs.Words.{joined};
 pub fn joined(high: u32, low: u32) -> u64
     ensures { result ≡ joined high low }
 {
-    u64::from(high) << 32 | u64::from(low)
+    // Casts, since the ciphers call this inside the guard's life, where no trait is called.
+    (high as u64) << 32 | low as u64
 }

@@ -2,7 +2,7 @@
 ghost use Rattle.card.specs.Outcomes.{done, done_by, polled, reacted, reacted_as, sent_bytes};
 ghost use Rattle.card.specs.Reactions.{heard, response};
 ghost use Rattle.command.specs.Commands.{asked};
-ghost use Rattle.std.specs.Prelude.{◌≡◌};
+ghost use Rattle.std.specs.Prelude.{◌≡◌, replicate};
 
 use crate::card::Card;
 use crate::outcome::Outcome;
@@ -20,8 +20,10 @@ const KEY_LENGTH: usize = 16;
 impl<C: Cipher> Card<'_, C> {
     /// A command that is heard. Polling is answered by `poll`, since all hoppers hear it.
     fn perform(&self, volatile: &mut Volatile, command: Command, sheet: &mut [u64; 16]) -> Outcome
-        ensures { done result volatile.new ≡ done_by (heard C.enciphered self.now.cells.now volatile.old (asked command.entry)) }
+        ensures answer { done result volatile.new ≡ done_by (heard C.enciphered self.now.cells.now volatile.old (asked command.entry)) }
+        ensures wiped { sheet.new ≡ replicate 16 0 }
     {
+        *sheet = [0; 16];
         match command {
             Command::Read(request) => self.read(volatile, request, sheet),
             Command::Write(request) => self.write(volatile, request, sheet),
@@ -35,8 +37,10 @@ impl<C: Cipher> Card<'_, C> {
 
     /// A command that names the hopper, whether it is heard or not.
     fn respond(&self, volatile: &mut Volatile, command: Command, sheet: &mut [u64; 16]) -> Outcome
-        ensures { done result volatile.new ≡ done_by (response C.enciphered self.now.cells.now volatile.old (asked command.entry)) }
+        ensures answer { done result volatile.new ≡ done_by (response C.enciphered self.now.cells.now volatile.old (asked command.entry)) }
+        ensures wiped { sheet.new ≡ replicate 16 0 }
     {
+        *sheet = [0; 16];
         if !volatile.session.radio.hears(command) {
             return Outcome::silent(FRAME_PLACE);
         }

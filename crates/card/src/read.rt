@@ -6,7 +6,7 @@ ghost use Rattle.card.specs.Reactions.{read_carried, read_judged};
 ghost use Rattle.command.specs.Commands.{carried};
 ghost use Rattle.hopper.specs.Windows.{view as public_view};
 ghost use Rattle.std.specs.Result.{result_map_both};
-ghost use Rattle.std.specs.Prelude.{◌≡◌};
+ghost use Rattle.std.specs.Prelude.{◌≡◌, replicate};
 
 use crate::card::Card;
 use crate::outcome::Outcome;
@@ -34,8 +34,10 @@ impl<C: Cipher> Card<'_, C> {
         request: Request,
         sheet: &mut [u64; 16],
     ) -> Outcome
-        ensures { outcome result ≡ shown_by (read_carried C.enciphered self.now.cells.now volatile.now (carried request.entry) (read_judged (public_view self.now.cells.now volatile.now) (carried request.entry))) }
+        ensures answer { outcome result ≡ shown_by (read_carried C.enciphered self.now.cells.now volatile.now (carried request.entry) (read_judged (public_view self.now.cells.now volatile.now) (carried request.entry))) }
+        ensures wiped { sheet.new ≡ replicate 16 0 }
     {
+        *sheet = [0; 16];
         match decide_read(&view(self.cells, volatile), request) {
             Ok(blocks) => {
                 let text = self.text(volatile, &blocks, sheet);

@@ -4,7 +4,7 @@ ghost use Rattle.card.specs.Reactions.{shown_text};
 ghost use Rattle.card.specs.Sources.{reads_from};
 ghost use Rattle.mac.specs.Chain.{tagged};
 ghost use Rattle.reply.specs.Texts.{block_sent, tag_block, text_in, text_of};
-ghost use Rattle.std.specs.Prelude.{◌≡◌};
+ghost use Rattle.std.specs.Prelude.{◌≡◌, replicate};
 
 use crate::card::Card;
 use crate::signature::{Tagging, read_key};
@@ -41,8 +41,10 @@ fn block_sent<C: Cipher>(
     block: u16,
     sheet: &mut [u64; 16],
 ) -> [u8; 16]
-    ensures { result ≡ block_sent (reads_from source.entry) (tagged (C.enciphered (C.key_bytes tagging.now.key)) tagging.now.start) (text_in text.now) block }
+    ensures value { result ≡ block_sent (reads_from source.entry) (tagged (C.enciphered (C.key_bytes tagging.now.key)) tagging.now.start) (text_in text.now) block }
+    ensures wiped { sheet.new ≡ replicate 16 0 }
 {
+    *sheet = [0; 16];
     match block {
         0x81 => tag_block(&tagging.tag(text.sent(), sheet)),
         0x91 => tag_block(&tagging.tag(text.led(), sheet)),
@@ -57,8 +59,10 @@ fn text_shown<C: Cipher>(
     blocks: &Blocks,
     sheet: &mut [u64; 16],
 ) -> Text
-    ensures { text_in result ≡ text_of (reads_from source.entry) (tagged (C.enciphered (C.key_bytes tagging.now.key)) tagging.now.start) (numbers_in blocks.now) }
+    ensures value { text_in result ≡ text_of (reads_from source.entry) (tagged (C.enciphered (C.key_bytes tagging.now.key)) tagging.now.start) (numbers_in blocks.now) }
+    ensures wiped { sheet.new ≡ replicate 16 0 }
 {
+    *sheet = [0; 16];
     let numbers = blocks.as_slice();
     let mut text = Text::led_by(numbers);
     for number in numbers {
@@ -71,7 +75,8 @@ fn text_shown<C: Cipher>(
 impl<C: Cipher> Card<'_, C> {
     /// The text of a read of these blocks, under the keys of the session.
     pub(crate) fn text(&self, volatile: &Volatile, blocks: &Blocks, sheet: &mut [u64; 16]) -> Text
-        ensures { text_in result ≡ shown_text C.enciphered self.now.cells.now volatile.now (numbers_in blocks.now) }
+        ensures value { text_in result ≡ shown_text C.enciphered self.now.cells.now volatile.now (numbers_in blocks.now) }
+        ensures wiped { sheet.new ≡ replicate 16 0 }
     {
         let tagging = self.tagging(volatile, &read_key(&volatile.keys), sheet);
         let source = Source {

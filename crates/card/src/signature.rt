@@ -2,7 +2,7 @@
 ghost use Rattle.card.specs.Reactions.{verdict};
 ghost use Rattle.card.specs.Signatures.{chain_start, read_key, signed_text, write_key};
 ghost use Rattle.mac.specs.Chain.{tagged};
-ghost use Rattle.std.specs.Prelude.{◌≡◌};
+ghost use Rattle.std.specs.Prelude.{◌≡◌, replicate};
 
 use crate::card::Card;
 use crate::order::Order;
@@ -57,7 +57,8 @@ pub(crate) struct Tagging<'a, C: Cipher> {
 impl<C: Cipher> Tagging<'_, C> {
     /// The tag of a text.
     pub(crate) fn tag(&self, text: &[[u8; 8]], sheet: &mut [u64; 16]) -> [u8; 8]
-        ensures { result ≡ tagged (C.enciphered (C.key_bytes self.now.key)) self.now.start text.now }
+        ensures value { result ≡ tagged (C.enciphered (C.key_bytes self.now.key)) self.now.start text.now }
+        ensures wiped { sheet.new ≡ replicate 16 0 }
     {
         tag(self.cipher, &self.key, self.start, text, sheet)
     }
@@ -73,6 +74,7 @@ impl<'a, C: Cipher> Card<'a, C> {
     ) -> Tagging<'a, C>
         ensures key { C.key_bytes result.key ≡ key.now }
         ensures start { result.start ≡ chain_start volatile.now }
+        ensures wiped { sheet.new ≡ replicate 16 0 }
     {
         Tagging {
             cipher: self.cipher,
@@ -90,7 +92,8 @@ impl<'a, C: Cipher> Card<'a, C> {
         mac: &[u8; 16],
         sheet: &mut [u64; 16],
     ) -> bool
-        ensures { result ≡ verdict C.enciphered self.now.cells.now volatile.now order.now.block order.now.sent mac.now }
+        ensures value { result ≡ verdict C.enciphered self.now.cells.now volatile.now order.now.block order.now.sent mac.now }
+        ensures wiped { sheet.new ≡ replicate 16 0 }
     {
         let counter = view(self.cells, volatile).counter;
         let (tag, _) = halves(mac);

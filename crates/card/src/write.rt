@@ -5,7 +5,7 @@ ghost use Rattle.card.specs.Reactions.{accepted, body_carried, counter_sent, jud
 ghost use Rattle.command.specs.Commands.{carried};
 ghost use Rattle.command.specs.Headers.{body as body_of, payload_block, write_header};
 ghost use Rattle.std.specs.Result.{result_map_both};
-ghost use Rattle.std.specs.Prelude.{◌≡◌, []};
+ghost use Rattle.std.specs.Prelude.{◌≡◌, [], replicate};
 
 use crate::card::Card;
 use crate::order::Order;
@@ -42,8 +42,10 @@ fn plan(view: &View, service: u16, list: &[u8], mac: Option<[u8; 16]>) -> Result
 impl<C: Cipher> Card<'_, C> {
     /// The volatile record after an accepted write: RC with new session keys, or STATE.
     fn keep(&self, volatile: &mut Volatile, order: &Order, sheet: &mut [u64; 16])
-        ensures { volatile.new ≡ kept_after C.enciphered self.now.cells.now volatile.old order.now.block order.now.sent }
+        ensures kept { volatile.new ≡ kept_after C.enciphered self.now.cells.now volatile.old order.now.block order.now.sent }
+        ensures wiped { sheet.new ≡ replicate 16 0 }
     {
+        *sheet = [0; 16];
         let sent = &order.sent;
         match order.block {
             0x80 => {
@@ -59,7 +61,8 @@ impl<C: Cipher> Card<'_, C> {
 
     /// An accepted write.
     fn accept(&self, volatile: &mut Volatile, order: Order, sheet: &mut [u64; 16]) -> Outcome
-        ensures { done result volatile.new ≡ done_by (accepted C.enciphered self.now.cells.now volatile.old order.identity order.block order.sent []) }
+        ensures answer { done result volatile.new ≡ done_by (accepted C.enciphered self.now.cells.now volatile.old order.identity order.block order.sent []) }
+        ensures wiped { sheet.new ≡ replicate 16 0 }
     {
         let state = view(self.cells, volatile);
         self.keep(volatile, &order, sheet);
@@ -76,7 +79,8 @@ impl<C: Cipher> Card<'_, C> {
         mac: &[u8; 16],
         sheet: &mut [u64; 16],
     ) -> Outcome
-        ensures { done result volatile.new ≡ done_by (judged_write C.enciphered self.now.cells.now volatile.old order.identity order.block order.sent (verdict C.enciphered self.now.cells.now volatile.old order.block order.sent mac.now)) }
+        ensures answer { done result volatile.new ≡ done_by (judged_write C.enciphered self.now.cells.now volatile.old order.identity order.block order.sent (verdict C.enciphered self.now.cells.now volatile.old order.block order.sent mac.now)) }
+        ensures wiped { sheet.new ≡ replicate 16 0 }
     {
         if self.verdict(volatile, &order, mac, sheet) {
             return self.accept(volatile, order, sheet);
@@ -94,8 +98,10 @@ impl<C: Cipher> Card<'_, C> {
         body: WriteBody,
         sheet: &mut [u64; 16],
     ) -> Outcome
-        ensures { done result volatile.new ≡ done_by (plan_carried C.enciphered self.now.cells.now volatile.old identity (payload_block 0 (body_of body.entry).1) (payload_block 1 (body_of body.entry).1) plan) }
+        ensures answer { done result volatile.new ≡ done_by (plan_carried C.enciphered self.now.cells.now volatile.old identity (payload_block 0 (body_of body.entry).1) (payload_block 1 (body_of body.entry).1) plan) }
+        ensures wiped { sheet.new ≡ replicate 16 0 }
     {
+        *sheet = [0; 16];
         let Some(sent) = body.payload_block(0) else {
             return Outcome::silent(HEADER_PLACE);
         };
@@ -121,8 +127,10 @@ impl<C: Cipher> Card<'_, C> {
         body: WriteBody,
         sheet: &mut [u64; 16],
     ) -> Outcome
-        ensures { done result volatile.new ≡ done_by (body_carried C.enciphered self.now.cells.now volatile.old (carried request.entry) (body_of body.entry)) }
+        ensures answer { done result volatile.new ≡ done_by (body_carried C.enciphered self.now.cells.now volatile.old (carried request.entry) (body_of body.entry)) }
+        ensures wiped { sheet.new ≡ replicate 16 0 }
     {
+        *sheet = [0; 16];
         let state = view(self.cells, volatile);
         match plan(&state, request.service, body.list, body.payload_block(1)) {
             Ok(plan) => self.carry_out(volatile, request.identity, plan, body, sheet),
@@ -137,8 +145,10 @@ impl<C: Cipher> Card<'_, C> {
         request: Request,
         sheet: &mut [u64; 16],
     ) -> Outcome
-        ensures { done result volatile.new ≡ done_by (write_carried C.enciphered self.now.cells.now volatile.old (carried request.entry) (write_header (carried request.entry))) }
+        ensures answer { done result volatile.new ≡ done_by (write_carried C.enciphered self.now.cells.now volatile.old (carried request.entry) (write_header (carried request.entry))) }
+        ensures wiped { sheet.new ≡ replicate 16 0 }
     {
+        *sheet = [0; 16];
         match request.write_header() {
             Ok(body) => self.write_body(volatile, request, body, sheet),
             Err(refusal) => Outcome::refused(WRITE_REPLY, &request.identity, refusal),

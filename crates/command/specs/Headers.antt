@@ -18,9 +18,13 @@ count_tests most q =
     ∷ (not (blocks_up_to most q), fault_told (of_command 2 0xFF 0xA2))
     ∷ []
 
--- after these that of the length: where it is not exact, nothing is sent
+-- the test of the length: where it is not exact, nothing is sent
+abbrev pub length_test : Bool → List (Bool × Told)
+length_test exact = (not exact, silent 2) ∷ []
+
+-- the counts first, and after them the length
 abbrev pub header_tests : ℕ → Bool → Carried → List (Bool × Told)
-header_tests most exact q = count_tests most q ++ (not exact, silent 2) ∷ []
+header_tests most exact q = count_tests most q ++ length_test exact
 
 -- the block list of a read: up to four blocks, and nothing after the list
 abbrev pub read_header : Carried → Result (List ℕ) Told

@@ -2,7 +2,7 @@
 ghost use Rattle.std.specs.Result.{result_map_both};
 ghost use Rattle.command.specs.Commands.{carried};
 ghost use Rattle.blocklist.specs.Faults.{fault_told, judged, told};
-ghost use Rattle.command.specs.Headers.{body, count_tests, header_tests, parted, payload_block, read_header, write_header};
+ghost use Rattle.command.specs.Headers.{body, count_tests, length_test, parted, payload_block, read_header, write_header};
 ghost use Rattle.std.specs.Prelude.{◌≡◌};
 
 use crate::request::Request;
@@ -26,6 +26,18 @@ impl WriteBody<'_> {
     }
 }
 
+/// The test of the length, which comes after those of the counts: where it is not exact, nothing is sent.
+fn check_length(is_exact: bool) -> Result<(), Refusal>
+    ensures { result_map_both (λ u. u) told result ≡ judged (length_test is_exact) tt }
+{
+    if !is_exact {
+        return Err(Refusal::Silence {
+            place: HEADER_PLACE,
+        });
+    }
+    Ok(())
+}
+
 impl<'a> Request<'a> {
     /// One service, and at least one block but no more than `most`.
     fn check_counts(self, most: u8) -> Result<(), Fault>
@@ -40,24 +52,13 @@ impl<'a> Request<'a> {
         Ok(())
     }
 
-    /// These tests, and after them that of the length.
-    fn check_header(self, most: u8, is_exact: bool) -> Result<(), Refusal>
-        ensures { result_map_both (λ u. u) told result ≡ judged (header_tests most is_exact (carried self.entry)) tt }
-    {
-        self.check_counts(most)?;
-        if !is_exact {
-            return Err(Refusal::Silence {
-                place: HEADER_PLACE,
-            });
-        }
-        Ok(())
-    }
-
     /// The block list of a read that passes the tests of its header.
     pub fn read_header(self) -> Result<&'a [u8], Refusal>
         ensures { result_map_both (λ x. x.now) told result ≡ read_header (carried self.entry) }
     {
-        self.check_header(4, read_is_exact(self.rest, self.blocks))?;
+        // The counts first: a list that they refuse is not read.
+        self.check_counts(4)?;
+        check_length(read_is_exact(self.rest, self.blocks))?;
         Ok(self.rest)
     }
 
@@ -74,7 +75,8 @@ impl<'a> Request<'a> {
     pub fn write_header(self) -> Result<WriteBody<'a>, Refusal>
         ensures { result_map_both body told result ≡ write_header (carried self.entry) }
     {
-        self.check_header(2, write_is_exact(self.rest, self.blocks))?;
+        self.check_counts(2)?;
+        check_length(write_is_exact(self.rest, self.blocks))?;
         Ok(self.write_body())
     }
 }

@@ -12,8 +12,8 @@ use byte_arrays::joined;
 fn mix(r: u32, key: u64) -> u32
     ensures { result ≡ cipher_function r key }
 {
-    // The cast is proved to lose nothing: the table picks 32 bits.
-    PERMUTATION.pick(substitute(EXPANSION.pick(r.into()) ^ key).into()) as u32
+    // Casts, and no trait's conversions, inside the guard's life. The last is proved to lose nothing: the table picks 32 bits.
+    PERMUTATION.pick(substitute(EXPANSION.pick(r as u64) ^ key) as u64) as u32
 }
 
 /// The halves after one round.

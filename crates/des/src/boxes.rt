@@ -8,8 +8,8 @@ use crate::tables::BOXES;
 /// The eight boxes, four rows each: a row's sixteen numbers are the digits of one number.
 // Laid flat, as the test over all entries reads them; arrays in arrays would need that test to be written anew, not less of it.
 pub struct Boxes {
-    pub rows: [u64; 32],
-    ghost hold: { T (hold_boxes rows) },
+    pub rows: &'static [u64; 32],
+    ghost hold: { T (hold_boxes rows.now) },
 }
 
 impl Boxes {

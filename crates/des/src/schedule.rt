@@ -60,13 +60,15 @@ fn shift_half(x: u64) -> u64
     x * 2 % 0x1000_0000 + x / 0x800_0000
 }
 
-/// The round keys that key bits give. (After a loop over `sheet.iter_mut().zip(..)` nothing is proved of the sheet.)
+/// The round keys that key bits give.
+// By the index: this runs inside the guard's life, where no trait is called, and `enumerate` is a trait's. (After a loop over
+// `sheet.iter_mut().zip(..)` nothing is proved of the sheet.)
 #[tactic(auto, using(crate::proofs::Schedules::scheduling))]
 fn fill(mut x: KeyBits, sheet: &mut [u64; 16])
     ensures { sheet.new ≡ scheduled x.bits left_shifts }
 {
-    for (i, n) in SHIFTS.iter().enumerate() {
-        x = x.shifted(*n);
+    for i in 0..16_usize {
+        x = x.shifted(SHIFTS[i]);
         sheet[i] = x.round_key();
     }
 }

@@ -73,7 +73,6 @@ impl Cipher for Xtea {
     }
 
     fn encrypt(&self, key: &XteaKey, block: [u8; 8], sheet: &mut [u64; 16]) -> [u8; 8] {
-        let _guard = Sheet(sheet);
         let k = &key.0;
         // Tried as `[0, 4, 8, 12].map(..)`: the proof did not close.
         let keys = [
@@ -82,6 +81,9 @@ impl Cipher for Xtea {
             word32_at(k, 8),
             word32_at(k, 12),
         ];
-        run(&keys, word32_at(&block, 0), word32_at(&block, 4)).to_be_bytes()
+        let (a, b) = (word32_at(&block, 0), word32_at(&block, 4));
+        // Taken when the words are read: that goes through `TryFrom`, and no trait is called inside the guard's life.
+        let _guard = Sheet(sheet);
+        run(&keys, a, b).to_be_bytes()
     }
 }
