@@ -1,5 +1,5 @@
 //! The substitution boxes.
-ghost use Rattle.std.specs.Prelude.{◌≡◌, ◌<◌, T};
+ghost use Rattle.std.specs.Prelude.{◌≡◌, ◌<◌, T, length};
 ghost use Rattle.des.specs.Des.{boxed, substituted};
 ghost use Rattle.des.specs.Rows.{hold_boxes};
 
@@ -9,6 +9,7 @@ use crate::tables::BOXES;
 // Laid flat, as the test over all entries reads them; arrays in arrays would need that test to be written anew, not less of it.
 pub struct Boxes {
     pub rows: &'static [u64; 32],
+    ghost full: { length rows.now ≡ 32 },
     ghost hold: { T (hold_boxes rows.now) },
 }
 
